@@ -1,0 +1,4 @@
+mod Counting
+mod Digits
+mod Losing
+mod Sets

@@ -1,0 +1,4 @@
+pub mod Losses
+pub mod Pattern
+pub mod Sets
+pub mod Sizes

@@ -1,0 +1,130 @@
+// Sets of consoles. No other file works on the bits of one.
+ghost use Prim.Native.Nat.{ℕ, _-_, _≤_, _<_, min};
+ghost use Rattle.carrier.specs.Sets.{Member, Members, Within, nobody, everybody, sole, size};
+ghost use Rattle.std.specs.Options.{Cases};
+ghost use Rattle.std.specs.Orderings.{Decides};
+ghost use lib.Bits.{bitAnd, bitOr};
+ghost use mathlib.Core.Logic.{_⊎_};
+ghost use mathlib.Core.Path.{_≡_};
+
+// A set of consoles 0 to 15, as a 16-bit number of which bit c stands for console c. There is no console above 15, so
+// that none can be put in.
+#[derive(Clone, Copy, PartialEq, Eq, Debug)]
+pub struct ConsoleSet {
+    bits: u16,
+}
+
+impl ConsoleSet {
+    pub fn from_number(number: u16) -> ConsoleSet
+        ensures { λ r. ⌜ r .bits ≡ number ⌝ }
+    {
+        ConsoleSet { bits: number }
+    }
+
+    pub fn number(self) -> u16
+        ensures { λ r. ⌜ r ≡ self .bits ⌝ }
+    {
+        self.bits
+    }
+
+    pub fn empty() -> ConsoleSet
+        ensures members { λ r. ⌜ Members (r .bits) (λ c. ⊥) ⌝ }
+        ensures number { λ r. ⌜ r .bits ≡ nobody ⌝ }
+    {
+        ConsoleSet { bits: 0 }
+    }
+
+    // The consoles below n.
+    pub fn all_of(n: u8) -> ConsoleSet
+        ensures members { λ r. ⌜ Members (r .bits) (λ c. (c < n) × (c < 16)) ⌝ }
+        ensures number { λ r. ⌜ r .bits ≡ everybody (min n 16) ⌝ }
+    {
+        if n < 16 {
+            ConsoleSet { bits: (1 << n) - 1 }
+        } else {
+            ConsoleSet { bits: u16::MAX }
+        }
+    }
+
+    pub fn one(console: u8) -> ConsoleSet
+        ensures members { λ r. ⌜ Members (r .bits) (λ c. (c ≡ console) × (c < 16)) ⌝ }
+        ensures number { λ r. ⌜ r .bits ≡ sole console ⌝ }
+    {
+        if console < 16 {
+            ConsoleSet { bits: 1 << console }
+        } else {
+            ConsoleSet { bits: 0 }
+        }
+    }
+
+    pub fn union(self, other: ConsoleSet) -> ConsoleSet
+        ensures members { λ r. ⌜ Members (r .bits) (λ c. Member c (self .bits) ⊎ Member c (other .bits)) ⌝ }
+        ensures number { λ r. ⌜ r .bits ≡ bitOr (self .bits) (other .bits) ⌝ }
+    {
+        ConsoleSet {
+            bits: self.bits | other.bits,
+        }
+    }
+
+    pub fn intersection(self, other: ConsoleSet) -> ConsoleSet
+        ensures members { λ r. ⌜ Members (r .bits) (λ c. Member c (self .bits) × Member c (other .bits)) ⌝ }
+        ensures number { λ r. ⌜ r .bits ≡ bitAnd (self .bits) (other .bits) ⌝ }
+    {
+        ConsoleSet {
+            bits: self.bits & other.bits,
+        }
+    }
+
+    pub fn difference(self, other: ConsoleSet) -> ConsoleSet
+        ensures members { λ r. ⌜ Members (r .bits) (λ c. Member c (self .bits) × (Member c (other .bits) → ⊥)) ⌝ }
+        ensures number { λ r. ⌜ r .bits ≡ self .bits - bitAnd (self .bits) (other .bits) ⌝ }
+    {
+        ConsoleSet {
+            bits: self.bits & !other.bits,
+        }
+    }
+
+    pub fn with(self, console: u8) -> ConsoleSet
+        ensures members { λ r. ⌜ Members (r .bits) (λ c. Member c (self .bits) ⊎ ((c ≡ console) × (c < 16))) ⌝ }
+        ensures number { λ r. ⌜ r .bits ≡ bitOr (self .bits) (sole console) ⌝ }
+    {
+        self.union(ConsoleSet::one(console))
+    }
+
+    pub fn without(self, console: u8) -> ConsoleSet
+        ensures members { λ r. ⌜ Members (r .bits) (λ c. Member c (self .bits) × (c ≡ console → ⊥)) ⌝ }
+        ensures number { λ r. ⌜ r .bits ≡ self .bits - bitAnd (self .bits) (sole console) ⌝ }
+    {
+        self.difference(ConsoleSet::one(console))
+    }
+
+    pub fn holds(self, console: u8) -> bool
+        ensures { λ r. ⌜ Decides r (Member console (self .bits)) ⌝ }
+    {
+        console < 16 && (self.bits >> console) & 1 == 1
+    }
+
+    pub fn is_subset(self, other: ConsoleSet) -> bool
+        ensures { λ r. ⌜ Decides r (Within (self .bits) (other .bits)) ⌝ }
+    {
+        self.bits & other.bits == self.bits
+    }
+
+    pub fn count(self) -> u8
+        ensures { λ r. ⌜ r ≡ size (self .bits) ⌝ }
+    {
+        self.bits.count_ones() as u8
+    }
+
+    // The lowest member from `start` on. Asked from 0 and then from one past each answer, it gives all members, rising.
+    pub fn lowest_from(self, start: u8) -> Option<u8>
+        ensures { λ r. ⌜ Cases r ((c : ℕ) → start ≤ c → Member c (self .bits) → ⊥) (λ m. (start ≤ m) × (m < 16) × Member m (self .bits) × ((c : ℕ) → start ≤ c → c < m → Member c (self .bits) → ⊥)) ⌝ }
+    {
+        for console in start..16 {
+            if self.holds(console) {
+                return Some(console);
+            }
+        }
+        None
+    }
+}

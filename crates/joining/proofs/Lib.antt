@@ -1,0 +1,2 @@
+mod Delays
+mod Digits
