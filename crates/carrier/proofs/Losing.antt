@@ -124,8 +124,8 @@ pub staggered-obeys : (n f : ℕ) → InRange n f → RoundRule (staggered n f)
 staggered-obeys n f ranges =
     losing-obeys n f (staggered-fate f) ranges (omega (arith, tally-staggered n f)) (λ c h. staggered-sound n f (ranges .2) c)
 
-pub quiet-up : (n r : ℕ) → everybody n ≡ those n (λ c. up-after r stays)
-quiet-up n r = same-members _ _ (everybody-members n) (those-members n _) (λ c h. (h, refl)) (λ c m. m .0)
+pub quiet-up : (n : ℕ) → everybody n ≡ those n (λ c. true)
+quiet-up n = same-members _ _ (everybody-members n) (those-members n _) (λ c h. (h, refl)) (λ c m. m .0)
 
 -- all of n without those below r and f
 pub staggered-up : (n f r all gone s : ℕ) → n ≤ 16 → Members all (λ c. (c < n) × (c < 16)) → Members gone (λ c. (c < min r f) × (c < 16))

@@ -1,8 +1,10 @@
 -- Sets of consoles as numbers: bit c of the number is console c.
-use Prim.Native.Nat.{ℕ, zero, suc, _+_, _-_, _/_, _%_, _^_}
+use Prim.Native.Nat.{ℕ, zero, suc, _+_, _-_, _/_, _%_, _^_, _≤_, _<_}
 use lib.Dec.{ltb}
 use mathlib.Core.Bool.{Bool, cond}
 use mathlib.Core.Path.{_≡_}
+use Rattle.std.specs.declared.option.Option.{Option}
+use Rattle.std.specs.declared.option.Option.the-variants.{None, Some}
 
 -- whether console c is in s, as 1 or 0
 abbrev pub bit : ℕ → ℕ → ℕ
@@ -48,3 +50,8 @@ count-below s (suc c) = count-below s c + bit s c
 -- how many consoles are in s
 unfoldable pub size : ℕ → ℕ
 size s = count-below s 16
+
+-- the lowest member of s from start on
+abbrev pub LowestFrom : ℕ → ℕ → Option ℕ → Type 0
+LowestFrom s start None = (c : ℕ) → start ≤ c → c < 16 → Member c s → ⊥
+LowestFrom s start (Some m) = (start ≤ m) × (m < 16) × Member m s × ((c : ℕ) → start ≤ c → c < m → Member c s → ⊥)

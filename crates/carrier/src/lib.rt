@@ -1,4 +1,5 @@
 // Carriers decide who of a ring is lost and who hears whom.
+mod bits;
 mod pattern;
 mod quiet;
 mod set;
@@ -24,3 +25,6 @@ pub use staggered::StaggeredCarrier;
 pub use staggered::StaggeredDebug;
 pub use staggered::StaggeredEq;
 pub use staggered::StaggeredPartialEq;
+
+#[cfg(test)]
+mod tests;

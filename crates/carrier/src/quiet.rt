@@ -1,6 +1,9 @@
 // The carrier that loses nobody.
 ghost use Rattle.carrier.specs.Losses.{quiet};
+ghost use Rattle.carrier.specs.Sets.{those};
 ghost use Rattle.carrier.specs.Sizes.{MadeFrom};
+ghost use mathlib.Core.Bool.{true};
+ghost use mathlib.Core.Path.{_≡_};
 use crate::pattern::Carrier;
 use crate::set::ConsoleSet;
 use crate::sizes::Sizes;
@@ -23,6 +26,13 @@ impl Quiet {
     }
 }
 
+// All of a ring.
+fn everyone(sizes: Sizes) -> ConsoleSet
+    ensures { λ r. ⌜ r .bits ≡ those (sizes .n) (λ c. true) ⌝ }
+{
+    ConsoleSet::all_of(sizes.consoles())
+}
+
 pub impl Carrier for Quiet as QuietCarrier {
     ghost pattern = { λ c. quiet (c .sizes .n) (c .sizes .f) };
 
@@ -30,8 +40,8 @@ pub impl Carrier for Quiet as QuietCarrier {
         self.sizes
     }
 
-    fn up(&self, round: u8) -> ConsoleSet {
-        ConsoleSet::all_of(self.sizes.consoles())
+    fn up(&self, _round: u8) -> ConsoleSet {
+        everyone(self.sizes)
     }
 
     fn heard(&self, round: u8, sender: u8) -> ConsoleSet {

@@ -1,11 +1,19 @@
-// Sets of consoles. No other file works on the bits of one.
-ghost use Prim.Native.Nat.{ℕ, _-_, _≤_, _<_, min};
-ghost use Rattle.carrier.specs.Sets.{Member, Members, Within, nobody, everybody, sole, size};
-ghost use Rattle.std.specs.Options.{Cases};
+// Sets of consoles.
+ghost use Prim.Native.Nat.{_-_, _<_, min};
+ghost use Rattle.carrier.specs.Sets.{Member, Members, Within, nobody, everybody, sole, size, LowestFrom};
 ghost use Rattle.std.specs.Orderings.{Decides};
 ghost use lib.Bits.{bitAnd, bitOr};
 ghost use mathlib.Core.Logic.{_⊎_};
 ghost use mathlib.Core.Path.{_≡_};
+use crate::bits::below;
+use crate::bits::cleared;
+use crate::bits::common;
+use crate::bits::either;
+use crate::bits::has;
+use crate::bits::minus;
+use crate::bits::ones;
+use crate::bits::single;
+use crate::bits::within;
 
 // A set of consoles 0 to 15, as a 16-bit number of which bit c stands for console c. There is no console above 15, so
 // that none can be put in.
@@ -39,21 +47,15 @@ impl ConsoleSet {
         ensures members { λ r. ⌜ Members (r .bits) (λ c. (c < n) × (c < 16)) ⌝ }
         ensures number { λ r. ⌜ r .bits ≡ everybody (min n 16) ⌝ }
     {
-        if n < 16 {
-            ConsoleSet { bits: (1 << n) - 1 }
-        } else {
-            ConsoleSet { bits: u16::MAX }
-        }
+        ConsoleSet { bits: below(n) }
     }
 
     pub fn one(console: u8) -> ConsoleSet
         ensures members { λ r. ⌜ Members (r .bits) (λ c. (c ≡ console) × (c < 16)) ⌝ }
         ensures number { λ r. ⌜ r .bits ≡ sole console ⌝ }
     {
-        if console < 16 {
-            ConsoleSet { bits: 1 << console }
-        } else {
-            ConsoleSet { bits: 0 }
+        ConsoleSet {
+            bits: single(console),
         }
     }
 
@@ -62,7 +64,7 @@ impl ConsoleSet {
         ensures number { λ r. ⌜ r .bits ≡ bitOr (self .bits) (other .bits) ⌝ }
     {
         ConsoleSet {
-            bits: self.bits | other.bits,
+            bits: either(self.bits, other.bits),
         }
     }
 
@@ -71,7 +73,7 @@ impl ConsoleSet {
         ensures number { λ r. ⌜ r .bits ≡ bitAnd (self .bits) (other .bits) ⌝ }
     {
         ConsoleSet {
-            bits: self.bits & other.bits,
+            bits: common(self.bits, other.bits),
         }
     }
 
@@ -80,7 +82,7 @@ impl ConsoleSet {
         ensures number { λ r. ⌜ r .bits ≡ self .bits - bitAnd (self .bits) (other .bits) ⌝ }
     {
         ConsoleSet {
-            bits: self.bits & !other.bits,
+            bits: minus(self.bits, other.bits),
         }
     }
 
@@ -88,37 +90,41 @@ impl ConsoleSet {
         ensures members { λ r. ⌜ Members (r .bits) (λ c. Member c (self .bits) ⊎ ((c ≡ console) × (c < 16))) ⌝ }
         ensures number { λ r. ⌜ r .bits ≡ bitOr (self .bits) (sole console) ⌝ }
     {
-        self.union(ConsoleSet::one(console))
+        ConsoleSet {
+            bits: either(self.bits, single(console)),
+        }
     }
 
     pub fn without(self, console: u8) -> ConsoleSet
         ensures members { λ r. ⌜ Members (r .bits) (λ c. Member c (self .bits) × (c ≡ console → ⊥)) ⌝ }
         ensures number { λ r. ⌜ r .bits ≡ self .bits - bitAnd (self .bits) (sole console) ⌝ }
     {
-        self.difference(ConsoleSet::one(console))
+        ConsoleSet {
+            bits: cleared(self.bits, console),
+        }
     }
 
     pub fn holds(self, console: u8) -> bool
         ensures { λ r. ⌜ Decides r (Member console (self .bits)) ⌝ }
     {
-        console < 16 && (self.bits >> console) & 1 == 1
+        has(self.bits, console)
     }
 
     pub fn is_subset(self, other: ConsoleSet) -> bool
         ensures { λ r. ⌜ Decides r (Within (self .bits) (other .bits)) ⌝ }
     {
-        self.bits & other.bits == self.bits
+        within(self.bits, other.bits)
     }
 
     pub fn count(self) -> u8
         ensures { λ r. ⌜ r ≡ size (self .bits) ⌝ }
     {
-        self.bits.count_ones() as u8
+        ones(self.bits)
     }
 
     // The lowest member from `start` on. Asked from 0 and then from one past each answer, it gives all members, rising.
     pub fn lowest_from(self, start: u8) -> Option<u8>
-        ensures { λ r. ⌜ Cases r ((c : ℕ) → start ≤ c → Member c (self .bits) → ⊥) (λ m. (start ≤ m) × (m < 16) × Member m (self .bits) × ((c : ℕ) → start ≤ c → c < m → Member c (self .bits) → ⊥)) ⌝ }
+        ensures { λ r. ⌜ LowestFrom (self .bits) start r ⌝ }
     {
         for console in start..16 {
             if self.holds(console) {

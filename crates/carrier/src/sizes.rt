@@ -15,7 +15,8 @@ impl Sizes {
     pub fn new(n: u8, f: u8) -> Result<Sizes, ContentFault>
         ensures { λ r. ⌜ MadeFrom n f (λ s. s .n) (λ s. s .f) r ⌝ }
     {
-        if n == 0 || n > 16 || f >= n {
+        // where n is 0, f is not below it
+        if n > 16 || f >= n {
             return Err(ContentFault::SizesOutOfRange);
         }
         Ok(Sizes { n, f })

@@ -1,6 +1,8 @@
 // The carrier that loses one console in each round.
 ghost use Rattle.carrier.specs.Losses.{staggered};
 ghost use Rattle.carrier.specs.Sizes.{MadeFrom};
+ghost use Prim.Native.Nat.{_≤_};
+ghost use mathlib.Core.Path.{_≡_};
 use crate::pattern::Carrier;
 use crate::set::ConsoleSet;
 use crate::sizes::Sizes;
@@ -24,6 +26,15 @@ impl Staggered {
     }
 }
 
+// Who is up after the round, on a ring of `n` that loses `f`.
+fn staying(n: u8, f: u8, round: u8) -> ConsoleSet
+    requires { ⌜ n ≤ 16 ⌝ }
+    ensures { λ r. ⌜ r .bits ≡ staggered n f .up round ⌝ }
+{
+    let gone = round.min(f);
+    ConsoleSet::all_of(n).difference(ConsoleSet::all_of(gone))
+}
+
 pub impl Carrier for Staggered as StaggeredCarrier {
     ghost pattern = { λ c. staggered (c .sizes .n) (c .sizes .f) };
 
@@ -32,8 +43,7 @@ pub impl Carrier for Staggered as StaggeredCarrier {
     }
 
     fn up(&self, round: u8) -> ConsoleSet {
-        let gone = round.min(self.sizes.losses());
-        ConsoleSet::all_of(self.sizes.consoles()).difference(ConsoleSet::all_of(gone))
+        staying(self.sizes.consoles(), self.sizes.losses(), round)
     }
 
     fn heard(&self, round: u8, sender: u8) -> ConsoleSet {

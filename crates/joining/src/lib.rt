@@ -34,3 +34,6 @@ pub use seed::SeedDebug;
 pub use seed::SeedEq;
 pub use seed::SeedJoining;
 pub use seed::SeedPartialEq;
+
+#[cfg(test)]
+mod tests;

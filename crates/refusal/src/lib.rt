@@ -58,3 +58,19 @@ impl ContentFault {
         }
     }
 }
+
+#[cfg(test)]
+mod tests {
+    use super::*;
+    use std::test::*;
+
+    #[test]
+    fn sizes_out_of_range_is_five_of_content_and_names_nothing() -> Result<(), Fail> {
+        let fault = ContentFault::SizesOutOfRange;
+        check_eq(fault.number(), 5)?;
+        check_eq(fault.layer(), Layer::Content)?;
+        check_eq(fault.names().console, None)?;
+        check_eq(fault.names().round, None)?;
+        check_eq(fault.names().rounds_left, None)
+    }
+}

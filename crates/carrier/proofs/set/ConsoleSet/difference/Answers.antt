@@ -1,9 +1,0 @@
-use native.Mathlib.Omega.{arith}
-use Rattle.carrier.proofs.Sets.{minus-members, minus-number}
-use Rattle.carrier.proofs.set.ConsoleSet.difference.Needs as need
-
-pub returns : need.returns
-returns c = record {
-  members = minus-members 16 (c .args .self .bits) (c .args .other .bits) (omega arith) (omega arith);
-  number = minus-number 16 (c .args .self .bits) (c .args .other .bits) (omega arith) (omega arith);
-}

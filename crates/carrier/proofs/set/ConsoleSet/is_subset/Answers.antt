@@ -1,9 +1,0 @@
-use Rattle.std.proofs.shelf.Tests.{eqb-true, eq-eqb}
-use Rattle.carrier.proofs.Sets.{within-and, and-within}
-use Rattle.carrier.proofs.set.ConsoleSet.is_subset.Needs as need
-
-pub returns : need.returns
-returns c =
-    let s = c .args .self .bits in
-    let t = c .args .other .bits in
-    ((λ e. and-within s t (eqb-true _ _ e)), (λ w. eq-eqb _ _ (within-and s t w)))
