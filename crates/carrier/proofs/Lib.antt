@@ -1,4 +1,4 @@
-mod Counting
-mod Digits
-mod Losing
-mod Sets
+pub mod Counting
+pub mod Digits
+pub mod Losing
+pub mod Sets

@@ -1,10 +1,10 @@
 // Carriers decide who of a ring is lost and who hears whom.
-mod bits;
 mod pattern;
 mod quiet;
 mod set;
 mod sizes;
 mod staggered;
+mod word;
 
 pub use pattern::Carrier;
 pub use quiet::Quiet;

@@ -12,6 +12,7 @@ use crate::sizes::SizesEq;
 use crate::sizes::SizesPartialEq;
 use refusal::ContentFault;
 
+// Loses nobody, and lets all hear all.
 #[derive(Clone, Copy, PartialEq, Eq, Debug)]
 pub struct Quiet {
     sizes: Sizes,

@@ -1,19 +1,11 @@
-// Sets of consoles.
+// Sets of consoles. No file but this one and `word.rt` works on the bits of a set.
 ghost use Prim.Native.Nat.{_-_, _<_, min};
 ghost use Rattle.carrier.specs.Sets.{Member, Members, Within, nobody, everybody, sole, size, LowestFrom};
 ghost use Rattle.std.specs.Orderings.{Decides};
 ghost use lib.Bits.{bitAnd, bitOr};
 ghost use mathlib.Core.Logic.{_⊎_};
 ghost use mathlib.Core.Path.{_≡_};
-use crate::bits::below;
-use crate::bits::cleared;
-use crate::bits::common;
-use crate::bits::either;
-use crate::bits::has;
-use crate::bits::minus;
-use crate::bits::ones;
-use crate::bits::single;
-use crate::bits::within;
+use crate::word;
 
 // A set of consoles 0 to 15, as a 16-bit number of which bit c stands for console c. There is no console above 15, so
 // that none can be put in.
@@ -47,7 +39,9 @@ impl ConsoleSet {
         ensures members { λ r. ⌜ Members (r .bits) (λ c. (c < n) × (c < 16)) ⌝ }
         ensures number { λ r. ⌜ r .bits ≡ everybody (min n 16) ⌝ }
     {
-        ConsoleSet { bits: below(n) }
+        ConsoleSet {
+            bits: word::below(n),
+        }
     }
 
     pub fn one(console: u8) -> ConsoleSet
@@ -55,7 +49,7 @@ impl ConsoleSet {
         ensures number { λ r. ⌜ r .bits ≡ sole console ⌝ }
     {
         ConsoleSet {
-            bits: single(console),
+            bits: word::single(console),
         }
     }
 
@@ -64,7 +58,7 @@ impl ConsoleSet {
         ensures number { λ r. ⌜ r .bits ≡ bitOr (self .bits) (other .bits) ⌝ }
     {
         ConsoleSet {
-            bits: either(self.bits, other.bits),
+            bits: word::either(self.bits, other.bits),
         }
     }
 
@@ -73,7 +67,7 @@ impl ConsoleSet {
         ensures number { λ r. ⌜ r .bits ≡ bitAnd (self .bits) (other .bits) ⌝ }
     {
         ConsoleSet {
-            bits: common(self.bits, other.bits),
+            bits: word::common(self.bits, other.bits),
         }
     }
 
@@ -82,7 +76,7 @@ impl ConsoleSet {
         ensures number { λ r. ⌜ r .bits ≡ self .bits - bitAnd (self .bits) (other .bits) ⌝ }
     {
         ConsoleSet {
-            bits: minus(self.bits, other.bits),
+            bits: word::minus(self.bits, other.bits),
         }
     }
 
@@ -91,7 +85,7 @@ impl ConsoleSet {
         ensures number { λ r. ⌜ r .bits ≡ bitOr (self .bits) (sole console) ⌝ }
     {
         ConsoleSet {
-            bits: either(self.bits, single(console)),
+            bits: word::either(self.bits, word::single(console)),
         }
     }
 
@@ -100,26 +94,26 @@ impl ConsoleSet {
         ensures number { λ r. ⌜ r .bits ≡ self .bits - bitAnd (self .bits) (sole console) ⌝ }
     {
         ConsoleSet {
-            bits: cleared(self.bits, console),
+            bits: word::cleared(self.bits, console),
         }
     }
 
     pub fn holds(self, console: u8) -> bool
         ensures { λ r. ⌜ Decides r (Member console (self .bits)) ⌝ }
     {
-        has(self.bits, console)
+        word::has(self.bits, console)
     }
 
     pub fn is_subset(self, other: ConsoleSet) -> bool
         ensures { λ r. ⌜ Decides r (Within (self .bits) (other .bits)) ⌝ }
     {
-        within(self.bits, other.bits)
+        word::within(self.bits, other.bits)
     }
 
     pub fn count(self) -> u8
         ensures { λ r. ⌜ r ≡ size (self .bits) ⌝ }
     {
-        ones(self.bits)
+        word::ones(self.bits)
     }
 
     // The lowest member from `start` on. Asked from 0 and then from one past each answer, it gives all members, rising.

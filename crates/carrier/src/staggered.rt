@@ -11,7 +11,7 @@ use crate::sizes::SizesEq;
 use crate::sizes::SizesPartialEq;
 use refusal::ContentFault;
 
-// Loses console r - 1 in round r, for r from 1 to f, heard by console r alone.
+// Loses console r - 1 in round r, for r from 1 to f, heard by console r alone. A console that stays up is heard by all.
 #[derive(Clone, Copy, PartialEq, Eq, Debug)]
 pub struct Staggered {
     sizes: Sizes,

@@ -1,2 +1,2 @@
-mod Delays
-mod Digits
+pub mod Delays
+pub mod Digits

@@ -1,4 +1,4 @@
-// The start card: what a console proposes.
+// The start card: what a console proposes. Nobody else spells out how its four parts are nested.
 ghost use Rattle.joining.specs.Card.{start-card, region-of, delay-of, modes-of, seed-of};
 ghost use mathlib.Core.Path.{_≡_};
 use crate::both::Both;

@@ -4,6 +4,7 @@ ghost use Rattle.joining.specs.declared.seed.Seed.{Seed};
 ghost use mathlib.Core.Path.{_≡_};
 use crate::kind::Joining;
 
+// Where the game's random numbers begin.
 #[derive(Clone, Copy, PartialEq, Eq, Debug)]
 pub struct Seed {
     value: u32,

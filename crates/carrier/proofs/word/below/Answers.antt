@@ -4,7 +4,7 @@ use native.Mathlib.Omega.{arith}
 use Rattle.std.proofs.shelf.Bits.{one-shl}
 use Rattle.carrier.specs.Sets.{everybody}
 use Rattle.carrier.proofs.Sets.{everybody-here}
-use Rattle.carrier.proofs.bits.below.Needs as need
+use Rattle.carrier.proofs.word.below.Needs as need
 
 pub returns-then-n-lt16 : need.returns-then-n-lt16
 returns-then-n-lt16 c =

@@ -1,6 +1,6 @@
 use native.Mathlib.Omega.{arith}
 use Rattle.carrier.proofs.Sets.{minus-members, minus-number}
-use Rattle.carrier.proofs.bits.minus.Needs as need
+use Rattle.carrier.proofs.word.minus.Needs as need
 
 pub returns : need.returns
 returns c = record {

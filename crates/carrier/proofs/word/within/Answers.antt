@@ -1,6 +1,6 @@
 use Rattle.std.proofs.shelf.Tests.{eqb-true, eq-eqb}
 use Rattle.carrier.proofs.Sets.{within-and, and-within}
-use Rattle.carrier.proofs.bits.within.Needs as need
+use Rattle.carrier.proofs.word.within.Needs as need
 
 pub returns : need.returns
 returns c =

@@ -5,7 +5,7 @@ use mathlib.Core.Path.{ap, _∙_}
 use native.Mathlib.Omega.{arith}
 use Rattle.std.proofs.shelf.Tests.{cases-lt}
 use Rattle.carrier.proofs.Digits.{bit-above}
-use Rattle.carrier.proofs.bits.cleared.Needs as need
+use Rattle.carrier.proofs.word.cleared.Needs as need
 
 pub returns : need.returns
 returns c = record {

@@ -4,7 +4,7 @@ use Rattle.std.proofs.shelf.Bits.{one-shl}
 use Rattle.std.proofs.shelf.Tests.{cond-true, lt-ltb}
 use Rattle.carrier.specs.Sets.{Member}
 use Rattle.carrier.proofs.Sets.{alone-members}
-use Rattle.carrier.proofs.bits.single.Needs as need
+use Rattle.carrier.proofs.word.single.Needs as need
 
 pub returns-then-console-lt16 : need.returns-then-console-lt16
 returns-then-console-lt16 c =

@@ -5,7 +5,7 @@ use native.Mathlib.Omega.{arith}
 use Rattle.std.proofs.shelf.Bits.{and-mask}
 use Rattle.std.proofs.shelf.Tests.{eqb-true, eq-eqb, ltb-true}
 use Rattle.carrier.proofs.Digits.{bit-above}
-use Rattle.carrier.proofs.bits.has.Needs as need
+use Rattle.carrier.proofs.word.has.Needs as need
 
 pub returns-then-console-lt16 : need.returns-then-console-lt16
 returns-then-console-lt16 c =
