@@ -3,11 +3,11 @@ use Prim.Native.Nat.{ℕ, zero, suc, _+_, _-_, _*_, _/_, _%_, _^_, _≤_, _<_, m
 use lib.Arith.{bin-ind}
 use lib.Bits.{bitAnd, bitOr, and-shr, and-mod, or-shr, or-mod, block-half, block-odd}
 use lib.Pow.{pow-pos, pow-mono, high}
-use mathlib.Core.Path.{_≡_, refl, sym, ap, subst, _∙_}
-use native.Mathlib.Nat.{div-one, div-eq-of-lt, two-pow-succ, pow-suc, one-mul}
+use mathlib.Core.Path.{_≡_, refl, sym, ap, _∙_}
+use native.Mathlib.Nat.{div-one, div-eq-of-lt, two-pow-succ}
 use native.Mathlib.Numerals.{one-add}
 use native.Mathlib.Omega.{arith}
-use Rattle.std.proofs.shelf.Bits.{div-add-mod', mod-below, shr-shr, pow-below}
+use Rattle.std.proofs.shelf.Bits.{mod-below, shr-shr}
 use Rattle.carrier.specs.Sets.{bit}
 
 pub bit-zero : (s : ℕ) → bit s 0 ≡ s % 2

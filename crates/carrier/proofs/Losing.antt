@@ -1,14 +1,14 @@
 -- Patterns given by who is lost when obey the round rule.
 use Prim.Native.Nat.{ℕ, zero, suc, _+_, _≤_, _<_, min}
-use lib.Dec.{ltb, leb, eqb}
-use mathlib.Core.Bool.{Bool, true, false, cond, _||_}
+use lib.Dec.{ltb, eqb}
+use mathlib.Core.Bool.{Bool, true, false, cond}
 use mathlib.Core.Logic.{_⊎_, ⊎-elim}
-use mathlib.Core.Path.{_≡_, refl, sym, ap, subst, _∙_}
+use mathlib.Core.Path.{_≡_, refl, sym, subst, _∙_}
 use native.Mathlib.Omega.{arith}
-use Rattle.std.proofs.shelf.Tests.{cases-lt, cases-bool, cases-eq, ltb-true, ltb-false, lt-ltb, le-ltb, le-leb, lt-leb, ne-eqb, or-from, or-right, cond-true, cond-false, cond-both, both-ways}
-use Rattle.carrier.specs.Losses.{Fate, stays, lost, up-after, heard-in, losing, quiet, staggered}
+use Rattle.std.proofs.shelf.Tests.{cases-lt, ltb-true, ltb-false, lt-ltb, le-ltb, le-leb, lt-leb, ne-eqb, or-from, or-right, cond-true, cond-false, cond-both}
+use Rattle.carrier.specs.Losses.{Fate, stays, lost, up-after, heard-in, losing, quiet, staggered-fate, staggered}
 use Rattle.carrier.specs.Pattern.{RoundRule}
-use Rattle.carrier.specs.Sets.{Member, Members, Within, nobody, everybody, alone, those}
+use Rattle.carrier.specs.Sets.{Member, Members, nobody, everybody, alone, those}
 use Rattle.carrier.specs.Sizes.{InRange}
 use Rattle.carrier.proofs.Counting.{tally, size-of-those, tally-either}
 use Rattle.carrier.proofs.Sets.{nobody-members, everybody-members, alone-members, those-members, same-members}
@@ -103,9 +103,6 @@ tally-none (suc n) = omega (arith, tally-none n)
 
 pub quiet-obeys : (n f : ℕ) → InRange n f → RoundRule (quiet n f)
 quiet-obeys n f ranges = losing-obeys n f (λ c. stays) ranges (omega (arith, tally-none n)) (λ c h. tt)
-
-abbrev staggered-fate : ℕ → ℕ → Fate
-staggered-fate f c = cond (ltb c f) (lost (suc c) (alone (suc c))) stays
 
 tally-staggered : (n f : ℕ) → tally n (λ c. loses (staggered-fate f c)) ≤ min n f
 tally-staggered zero f = omega arith

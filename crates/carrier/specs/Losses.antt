@@ -33,6 +33,10 @@ losing n f fate = record {
 abbrev pub quiet : ℕ → ℕ → Pattern
 quiet n f = losing n f (λ c. stays)
 
--- each console c below f is lost in round c + 1, heard by console c + 1 alone
+-- console c is lost in round c + 1 if it is below f, heard by console c + 1 alone
+abbrev pub staggered-fate : ℕ → ℕ → Fate
+staggered-fate f c = cond (ltb c f) (lost (suc c) (alone (suc c))) stays
+
+-- console r - 1 is lost in round r, for r from 1 to f
 abbrev pub staggered : ℕ → ℕ → Pattern
-staggered n f = losing n f (λ c. cond (ltb c f) (lost (suc c) (alone (suc c))) stays)
+staggered n f = losing n f (staggered-fate f)

@@ -1,4 +1,4 @@
-// Boundaries of the sizes, and worked rounds.
+// Boundaries of the sizes, worked rounds, and the round rule asked of every ring.
 use crate::*;
 use refusal::ContentFault;
 use refusal::ContentFaultDebug;
@@ -59,4 +59,34 @@ fn sets_leave_out_what_is_no_console() -> Result<(), Fail> {
     check_eq(ConsoleSet::all_of(16).holds(16), false)?;
     check_eq(ConsoleSet::one(15).lowest_from(3), Some(15))?;
     check_eq(ConsoleSet::one(15).lowest_from(16), None)
+}
+
+fn keeps_the_round_rule(ring: &impl Carrier) -> Result<(), Fail> {
+    let all = ConsoleSet::all_of(ring.sizes().consoles());
+    let most_lost = ring.sizes().losses();
+    check_eq(ring.up(0), all)?;
+    for round in 1..20 {
+        let before = ring.up(round - 1);
+        let after = ring.up(round);
+        check(after.is_subset(before))?;
+        check(all.difference(after).count() <= most_lost)?;
+        for sender in 0..20 {
+            let heard = ring.heard(round, sender);
+            check(heard.is_subset(all))?;
+            check(!after.holds(sender) || after.is_subset(heard))?;
+            check(before.holds(sender) || heard == ConsoleSet::empty())?;
+        }
+    }
+    Ok(())
+}
+
+#[test]
+fn every_ring_keeps_the_round_rule() -> Result<(), Fail> {
+    for n in 1..17 {
+        for f in 0..n {
+            keeps_the_round_rule(&Quiet::new(n, f)?)?;
+            keeps_the_round_rule(&Staggered::new(n, f)?)?;
+        }
+    }
+    Ok(())
 }

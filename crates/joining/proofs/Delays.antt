@@ -1,34 +1,25 @@
 -- A delay is known by its number of frames, so the laws of its join are those of the greater number.
-use Prim.Native.Nat.{ℕ, zero, suc, max}
+use Prim.Native.Nat.{ℕ, max}
+use mathlib.Core.List.{[], _∷_}
 use mathlib.Core.Path.{_≡_, refl, sym, ap, _∙_}
 use native.Mathlib.Omega.{arith}
 use Rattle.std.proofs.shelf.Tests.{cond-both, ltb-true, ltb-false}
 use lib.Dec.{ltb}
+use lib.ListN.{getD}
 use Rattle.joining.specs.Delay.{frames-of, delay-join}
 use Rattle.joining.specs.Semilattice.{Semilattice}
 use Rattle.joining.specs.declared.delay.Delay.{Delay}
 use Rattle.joining.specs.declared.delay.Delay.the-variants.{Zero, One, Two, Three, Four, Five, Six, Seven, Eight, Nine, Ten, Eleven, Twelve, Thirteen, Fourteen, Fifteen}
 
 -- the delay of a number of frames
-abbrev of-frames : ℕ → Delay
-of-frames zero = Zero
-of-frames (suc zero) = One
-of-frames (suc (suc zero)) = Two
-of-frames (suc (suc (suc zero))) = Three
-of-frames (suc (suc (suc (suc zero)))) = Four
-of-frames (suc (suc (suc (suc (suc zero))))) = Five
-of-frames (suc (suc (suc (suc (suc (suc zero)))))) = Six
-of-frames (suc (suc (suc (suc (suc (suc (suc zero))))))) = Seven
-of-frames (suc (suc (suc (suc (suc (suc (suc (suc zero)))))))) = Eight
-of-frames (suc (suc (suc (suc (suc (suc (suc (suc (suc zero))))))))) = Nine
-of-frames (suc (suc (suc (suc (suc (suc (suc (suc (suc (suc zero)))))))))) = Ten
-of-frames (suc (suc (suc (suc (suc (suc (suc (suc (suc (suc (suc zero))))))))))) = Eleven
-of-frames (suc (suc (suc (suc (suc (suc (suc (suc (suc (suc (suc (suc zero)))))))))))) = Twelve
-of-frames (suc (suc (suc (suc (suc (suc (suc (suc (suc (suc (suc (suc (suc zero))))))))))))) = Thirteen
-of-frames (suc (suc (suc (suc (suc (suc (suc (suc (suc (suc (suc (suc (suc (suc zero)))))))))))))) = Fourteen
-of-frames (suc (suc (suc (suc (suc (suc (suc (suc (suc (suc (suc (suc (suc (suc (suc n))))))))))))))) = Fifteen
+of-frames : ℕ → Delay
+of-frames n =
+    getD
+    (Zero ∷ One ∷ Two ∷ Three ∷ Four ∷ Five ∷ Six ∷ Seven ∷ Eight ∷ Nine ∷ Ten ∷ Eleven ∷ Twelve ∷ Thirteen ∷ Fourteen ∷ Fifteen ∷ [])
+    n Zero
 
 back : (d : Delay) → of-frames (frames-of d) ≡ d
+unfolding of-frames
 back Zero = refl
 back One = refl
 back Two = refl
@@ -46,7 +37,7 @@ back Thirteen = refl
 back Fourteen = refl
 back Fifteen = refl
 
-pub same-frames : (x y : Delay) → frames-of x ≡ frames-of y → x ≡ y
+same-frames : (x y : Delay) → frames-of x ≡ frames-of y → x ≡ y
 same-frames x y e = sym (back x) ∙ ap of-frames e ∙ back y
 
 frames-of-join : (x y : Delay) → frames-of (delay-join x y) ≡ max (frames-of x) (frames-of y)

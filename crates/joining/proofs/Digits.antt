@@ -1,5 +1,5 @@
 -- Binary digits: the digits that two numbers share are shared in any grouping.
-use Prim.Native.Nat.{ℕ, zero, suc, _+_, _*_, _/_, _%_, _^_, _<_}
+use Prim.Native.Nat.{ℕ, zero, suc, _+_, _*_, _/_, _%_, _<_}
 use lib.Arith.{bin-ind}
 use lib.Bits.{bitAnd, and-shr, and-mod}
 use lib.Pow.{pow-pos}

@@ -1,5 +1,4 @@
 use Prim.Native.Nat.{_/_, _^_}
-use lib.Pow.{pow-pos}
 use mathlib.Core.Path.{sym, _∙_}
 use native.Mathlib.Omega.{arith}
 use Rattle.std.proofs.shelf.Bits.{and-mask}
