@@ -79,19 +79,22 @@ same-members s t ms mt there back =
     (λ ne. ⊎-elim (λ e. absurd (ne (ms c .1 (back c (mt c .0 e))))) (λ ne2. omega arith) (cases-eq (bit t c) 1))
     (cases-eq (bit s c) 1))
 
--- what is in s and in t, and what is in s and not in t, make up s
-pub minus-number : (k s t : ℕ) → s < 2 ^ k → t < 2 ^ k → bitAnd s (2 ^ k - 1 - t) ≡ s - bitAnd s t
-minus-number k s t hs ht =
-    let out = minus-members k s t hs ht in
-    let common = and-members s t in
-    let apart : bitAnd (bitAnd s (2 ^ k - 1 - t)) (bitAnd s t) ≡ nobody =
-    same-members _ _ (and-members (bitAnd s (2 ^ k - 1 - t)) (bitAnd s t)) nobody-members
-    (λ c m. out c .0 (m .0) .1 (common c .0 (m .1) .1)) (λ c none. absurd none) in
-    let whole : bitOr (bitAnd s (2 ^ k - 1 - t)) (bitAnd s t) ≡ s =
-    same-members _ _ (or-members (bitAnd s (2 ^ k - 1 - t)) (bitAnd s t)) (λ c. ((λ m. m), (λ m. m)))
-    (λ c m. ⊎-elim (λ h. out c .0 h .0) (λ h. common c .0 h .0) m)
-    (λ c m. ⊎-elim (λ h. inr (common c .1 (m, h))) (λ h. inl (out c .1 (m, h))) (cases-eq (bit t c) 1)) in
-    omega (arith, or-disjoint _ _ apart, whole)
+-- what s shares with t, and what it does not, are apart and make up s
+module _ (k s t : ℕ) (hs : s < 2 ^ k) (ht : t < 2 ^ k) where
+  rest-apart : bitAnd (bitAnd s (2 ^ k - 1 - t)) (bitAnd s t) ≡ nobody
+  rest-apart =
+      same-members _ _ (and-members (bitAnd s (2 ^ k - 1 - t)) (bitAnd s t)) nobody-members
+      (λ c m. minus-members k s t hs ht c .0 (m .0) .1 (and-members s t c .0 (m .1) .1))
+      (λ c none. absurd none)
+
+  rest-whole : bitOr (bitAnd s (2 ^ k - 1 - t)) (bitAnd s t) ≡ s
+  rest-whole =
+      same-members _ _ (or-members (bitAnd s (2 ^ k - 1 - t)) (bitAnd s t)) (λ c. ((λ m. m), (λ m. m)))
+      (λ c m. ⊎-elim (λ h. minus-members k s t hs ht c .0 h .0) (λ h. and-members s t c .0 h .0) m)
+      (λ c m. ⊎-elim (λ h. inr (and-members s t c .1 (m, h))) (λ h. inl (minus-members k s t hs ht c .1 (m, h))) (cases-eq (bit t c) 1))
+
+  pub minus-number : bitAnd s (2 ^ k - 1 - t) ≡ s - bitAnd s t
+  minus-number = omega (arith, or-disjoint _ _ rest-apart, rest-whole)
 
 pub those-below : (n : ℕ) (test : ℕ → Bool) → those n test < 2 ^ n
 unfolding those

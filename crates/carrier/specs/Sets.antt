@@ -1,7 +1,9 @@
 -- Sets of consoles as numbers: bit c of the number is console c.
-use Prim.Native.Nat.{ℕ, zero, suc, _+_, _-_, _/_, _%_, _^_, _≤_, _<_}
+use Prim.Native.Nat.{ℕ, zero, suc, _+_, _-_, _/_, _%_, _^_, _≤_, _<_, min}
+use lib.Bits.{bitAnd, bitOr}
 use lib.Dec.{ltb}
 use mathlib.Core.Bool.{Bool, cond}
+use mathlib.Core.Logic.{_⊎_}
 use mathlib.Core.Path.{_≡_}
 use Rattle.std.specs.declared.option.Option.{Option}
 use Rattle.std.specs.declared.option.Option.the-variants.{None, Some}
@@ -50,6 +52,35 @@ count-below s (suc c) = count-below s c + bit s c
 -- how many consoles are in s
 unfoldable pub size : ℕ → ℕ
 size s = count-below s 16
+
+-- What each operation answers, r, by its members and as a number. There is no console from 16 on.
+pub record AllBelow (n r : ℕ) : Type 0 where
+  pub members : Members r (λ c. (c < n) × (c < 16))
+  pub number : r ≡ everybody (min n 16)
+
+pub record Single (console r : ℕ) : Type 0 where
+  pub members : Members r (λ c. (c ≡ console) × (c < 16))
+  pub number : r ≡ sole console
+
+pub record Union (s t r : ℕ) : Type 0 where
+  pub members : Members r (λ c. Member c s ⊎ Member c t)
+  pub number : r ≡ bitOr s t
+
+pub record Intersection (s t r : ℕ) : Type 0 where
+  pub members : Members r (λ c. Member c s × Member c t)
+  pub number : r ≡ bitAnd s t
+
+pub record Difference (s t r : ℕ) : Type 0 where
+  pub members : Members r (λ c. Member c s × (Member c t → ⊥))
+  pub number : r ≡ s - bitAnd s t
+
+pub record Added (s console r : ℕ) : Type 0 where
+  pub members : Members r (λ c. Member c s ⊎ ((c ≡ console) × (c < 16)))
+  pub number : r ≡ bitOr s (sole console)
+
+pub record Removed (s console r : ℕ) : Type 0 where
+  pub members : Members r (λ c. Member c s × (c ≡ console → ⊥))
+  pub number : r ≡ s - bitAnd s (sole console)
 
 -- the lowest member of s from start on
 abbrev pub LowestFrom : ℕ → ℕ → Option ℕ → Type 0

@@ -1,9 +1,6 @@
 // Sets of consoles. No file but this one and `word.rt` works on the bits of a set.
-ghost use Prim.Native.Nat.{_-_, _<_, min};
-ghost use Rattle.carrier.specs.Sets.{Member, Members, Within, nobody, everybody, sole, size, LowestFrom};
+ghost use Rattle.carrier.specs.Sets.{AllBelow, Single, Union, Intersection, Difference, Added, Removed, LowestFrom, Member, Members, Within, nobody, size};
 ghost use Rattle.std.specs.Orderings.{Decides};
-ghost use lib.Bits.{bitAnd, bitOr};
-ghost use mathlib.Core.Logic.{_⊎_};
 ghost use mathlib.Core.Path.{_≡_};
 use crate::word;
 
@@ -36,8 +33,7 @@ impl ConsoleSet {
 
     // The consoles below n.
     pub fn all_of(n: u8) -> ConsoleSet
-        ensures members { λ r. ⌜ Members (r .bits) (λ c. (c < n) × (c < 16)) ⌝ }
-        ensures number { λ r. ⌜ r .bits ≡ everybody (min n 16) ⌝ }
+        ensures { λ r. ⌜ AllBelow n (r .bits) ⌝ }
     {
         ConsoleSet {
             bits: word::below(n),
@@ -45,8 +41,7 @@ impl ConsoleSet {
     }
 
     pub fn one(console: u8) -> ConsoleSet
-        ensures members { λ r. ⌜ Members (r .bits) (λ c. (c ≡ console) × (c < 16)) ⌝ }
-        ensures number { λ r. ⌜ r .bits ≡ sole console ⌝ }
+        ensures { λ r. ⌜ Single console (r .bits) ⌝ }
     {
         ConsoleSet {
             bits: word::single(console),
@@ -54,8 +49,7 @@ impl ConsoleSet {
     }
 
     pub fn union(self, other: ConsoleSet) -> ConsoleSet
-        ensures members { λ r. ⌜ Members (r .bits) (λ c. Member c (self .bits) ⊎ Member c (other .bits)) ⌝ }
-        ensures number { λ r. ⌜ r .bits ≡ bitOr (self .bits) (other .bits) ⌝ }
+        ensures { λ r. ⌜ Union (self .bits) (other .bits) (r .bits) ⌝ }
     {
         ConsoleSet {
             bits: word::either(self.bits, other.bits),
@@ -63,8 +57,7 @@ impl ConsoleSet {
     }
 
     pub fn intersection(self, other: ConsoleSet) -> ConsoleSet
-        ensures members { λ r. ⌜ Members (r .bits) (λ c. Member c (self .bits) × Member c (other .bits)) ⌝ }
-        ensures number { λ r. ⌜ r .bits ≡ bitAnd (self .bits) (other .bits) ⌝ }
+        ensures { λ r. ⌜ Intersection (self .bits) (other .bits) (r .bits) ⌝ }
     {
         ConsoleSet {
             bits: word::common(self.bits, other.bits),
@@ -72,8 +65,7 @@ impl ConsoleSet {
     }
 
     pub fn difference(self, other: ConsoleSet) -> ConsoleSet
-        ensures members { λ r. ⌜ Members (r .bits) (λ c. Member c (self .bits) × (Member c (other .bits) → ⊥)) ⌝ }
-        ensures number { λ r. ⌜ r .bits ≡ self .bits - bitAnd (self .bits) (other .bits) ⌝ }
+        ensures { λ r. ⌜ Difference (self .bits) (other .bits) (r .bits) ⌝ }
     {
         ConsoleSet {
             bits: word::minus(self.bits, other.bits),
@@ -81,8 +73,7 @@ impl ConsoleSet {
     }
 
     pub fn with(self, console: u8) -> ConsoleSet
-        ensures members { λ r. ⌜ Members (r .bits) (λ c. Member c (self .bits) ⊎ ((c ≡ console) × (c < 16))) ⌝ }
-        ensures number { λ r. ⌜ r .bits ≡ bitOr (self .bits) (sole console) ⌝ }
+        ensures { λ r. ⌜ Added (self .bits) console (r .bits) ⌝ }
     {
         ConsoleSet {
             bits: word::either(self.bits, word::single(console)),
@@ -90,8 +81,7 @@ impl ConsoleSet {
     }
 
     pub fn without(self, console: u8) -> ConsoleSet
-        ensures members { λ r. ⌜ Members (r .bits) (λ c. Member c (self .bits) × (c ≡ console → ⊥)) ⌝ }
-        ensures number { λ r. ⌜ r .bits ≡ self .bits - bitAnd (self .bits) (sole console) ⌝ }
+        ensures { λ r. ⌜ Removed (self .bits) console (r .bits) ⌝ }
     {
         ConsoleSet {
             bits: word::cleared(self.bits, console),

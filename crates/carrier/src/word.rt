@@ -1,42 +1,34 @@
 // The bit operations on a 16-bit word, by the consoles that it holds: bit c is console c.
-ghost use Prim.Native.Nat.{_-_, _<_, min};
-ghost use Rattle.carrier.specs.Sets.{Member, Members, Within, everybody, sole, size};
+ghost use Rattle.carrier.specs.Sets.{AllBelow, Single, Union, Intersection, Difference, Removed, Member, Within, size};
 ghost use Rattle.std.specs.Orderings.{Decides};
-ghost use lib.Bits.{bitAnd, bitOr};
-ghost use mathlib.Core.Logic.{_⊎_};
 ghost use mathlib.Core.Path.{_≡_};
 
 pub(crate) fn below(n: u8) -> u16
-    ensures members { λ r. ⌜ Members r (λ c. (c < n) × (c < 16)) ⌝ }
-    ensures number { λ r. ⌜ r ≡ everybody (min n 16) ⌝ }
+    ensures { λ r. ⌜ AllBelow n r ⌝ }
 {
     if n < 16 { (1 << n) - 1 } else { u16::MAX }
 }
 
 pub(crate) fn single(console: u8) -> u16
-    ensures members { λ r. ⌜ Members r (λ c. (c ≡ console) × (c < 16)) ⌝ }
-    ensures number { λ r. ⌜ r ≡ sole console ⌝ }
+    ensures { λ r. ⌜ Single console r ⌝ }
 {
     if console < 16 { 1 << console } else { 0 }
 }
 
 pub(crate) fn either(s: u16, t: u16) -> u16
-    ensures members { λ r. ⌜ Members r (λ c. Member c s ⊎ Member c t) ⌝ }
-    ensures number { λ r. ⌜ r ≡ bitOr s t ⌝ }
+    ensures { λ r. ⌜ Union s t r ⌝ }
 {
     s | t
 }
 
 pub(crate) fn common(s: u16, t: u16) -> u16
-    ensures members { λ r. ⌜ Members r (λ c. Member c s × Member c t) ⌝ }
-    ensures number { λ r. ⌜ r ≡ bitAnd s t ⌝ }
+    ensures { λ r. ⌜ Intersection s t r ⌝ }
 {
     s & t
 }
 
 pub(crate) fn minus(s: u16, t: u16) -> u16
-    ensures members { λ r. ⌜ Members r (λ c. Member c s × (Member c t → ⊥)) ⌝ }
-    ensures number { λ r. ⌜ r ≡ s - bitAnd s t ⌝ }
+    ensures { λ r. ⌜ Difference s t r ⌝ }
 {
     s & !t
 }
@@ -61,8 +53,7 @@ pub(crate) fn ones(s: u16) -> u8
 
 // `s` without one console, which it need not hold.
 pub(crate) fn cleared(s: u16, console: u8) -> u16
-    ensures members { λ r. ⌜ Members r (λ c. Member c s × (c ≡ console → ⊥)) ⌝ }
-    ensures number { λ r. ⌜ r ≡ s - bitAnd s (sole console) ⌝ }
+    ensures { λ r. ⌜ Removed s console r ⌝ }
 {
     minus(s, single(console))
 }

@@ -1,4 +1,6 @@
 // Joins the start cards of a ring of three in two orders, and prints who is lost and heard when on a staggered ring.
+mod shown;
+
 use carrier::Carrier;
 use carrier::ConsoleSet;
 use carrier::Staggered;
@@ -19,67 +21,11 @@ use joining::RegionPartialEq;
 use joining::Seed;
 use joining::SeedJoining;
 use joining::SeedPartialEq;
+use shown::ShownCard;
+use shown::ShownCardDisplay;
+use shown::ShownSet;
+use shown::ShownSetDisplay;
 use std::io;
-
-fn region_name(region: Region) -> &'static str {
-    match region {
-        Region::Unmarked => "none",
-        Region::Fifty => "50",
-        Region::Sixty => "60",
-        Region::Clash => "clash",
-    }
-}
-
-fn print_card(rt: &impl Print, label: &str, card: Card) -> io::Result<()> {
-    let region = region_name(card.region());
-    let delay = card.delay().frames();
-    let modes = card.modes().number();
-    let seed = card.seed().number();
-    println!(
-        rt,
-        "{label}: region {region} delay {delay} modes {modes:04x} seed {seed:08x}"
-    )
-}
-
-fn print_consoles(rt: &impl Print, consoles: ConsoleSet) -> io::Result<()> {
-    let mut start = 0;
-    while let Some(console) = consoles.lowest_from(start) {
-        print!(rt, " {console}")?;
-        start = console + 1;
-    }
-    Ok(())
-}
-
-fn print_losses(
-    rt: &impl Print,
-    carrier: &impl Carrier,
-    round: u8,
-    lost: ConsoleSet,
-) -> io::Result<()> {
-    let mut start = 0;
-    while let Some(console) = lost.lowest_from(start) {
-        print!(rt, ", lost {console} heard by")?;
-        print_consoles(rt, carrier.heard(round, console))?;
-        start = console + 1;
-    }
-    Ok(())
-}
-
-fn print_schedule(rt: &impl Print, carrier: &impl Carrier) -> io::Result<()> {
-    let mut before = carrier.up(0);
-    print!(rt, "before round 1: up")?;
-    print_consoles(rt, before)?;
-    println!(rt, "")?;
-    for round in 1..carrier.sizes().losses() + 2 {
-        let after = carrier.up(round);
-        print!(rt, "round {round}: up")?;
-        print_consoles(rt, after)?;
-        print_losses(rt, carrier, round, before.difference(after))?;
-        println!(rt, "")?;
-        before = after;
-    }
-    Ok(())
-}
 
 fn join_cards(rt: &impl Print) -> io::Result<()> {
     let first = Card::new(
@@ -100,19 +46,50 @@ fn join_cards(rt: &impl Print) -> io::Result<()> {
         Modes::new(0x0007),
         Seed::new(7),
     );
-    print_card(rt, "console 0", first)?;
-    print_card(rt, "console 1", second)?;
-    print_card(rt, "console 2", third)?;
+    println!(rt, "console 0: {}", ShownCard(first))?;
+    println!(rt, "console 1: {}", ShownCard(second))?;
+    println!(rt, "console 2: {}", ShownCard(third))?;
     let rising = first.join(second).join(third);
     let falling = third.join(second.join(first));
-    print_card(rt, "agreed, 0 with 1, then 2", rising)?;
-    print_card(rt, "agreed, 2 with 1 and 0", falling)?;
+    println!(rt, "agreed, 0 with 1, then 2: {}", ShownCard(rising))?;
+    println!(rt, "agreed, 2 with 1 and 0: {}", ShownCard(falling))?;
     let verdict = if rising == falling {
         "equal"
     } else {
         "different"
     };
     println!(rt, "the two are {verdict}")
+}
+
+fn print_losses(
+    rt: &impl Print,
+    ring: &impl Carrier,
+    round: u8,
+    lost: ConsoleSet,
+) -> io::Result<()> {
+    let mut start = 0;
+    while let Some(console) = lost.lowest_from(start) {
+        print!(
+            rt,
+            ", lost {console} heard by {}",
+            ShownSet(ring.heard(round, console))
+        )?;
+        start = console + 1;
+    }
+    Ok(())
+}
+
+fn print_schedule(rt: &impl Print, ring: &impl Carrier) -> io::Result<()> {
+    let mut before = ring.up(0);
+    println!(rt, "before round 1: up {}", ShownSet(before))?;
+    for round in 1..ring.sizes().losses() + 2 {
+        let after = ring.up(round);
+        print!(rt, "round {round}: up {}", ShownSet(after))?;
+        print_losses(rt, ring, round, before.difference(after))?;
+        println!(rt, "")?;
+        before = after;
+    }
+    Ok(())
 }
 
 fn main(rt: LibcRuntime) -> io::Result<()> {

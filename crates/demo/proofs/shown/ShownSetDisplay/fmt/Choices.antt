@@ -1,5 +1,5 @@
 use Prim.Native.Nat.{_-_}
-use Rattle.demo.proofs.print_consoles.Given as given
+use Rattle.demo.proofs.shown.ShownSetDisplay.fmt.Given as given
 
 abbrev pub μ-loop-console : given.MeasureT-loop-console
 μ-loop-console g l = 16 - l .start
