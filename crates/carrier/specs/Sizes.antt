@@ -1,8 +1,8 @@
 -- The sizes that a ring may have.
 use Prim.Native.Nat.{ℕ, _≤_, _<_}
 use mathlib.Core.Path.{_≡_}
-use Rattle.refusal.specs.declared.ContentFault.{ContentFault}
-use Rattle.refusal.specs.declared.ContentFault.the-variants.{SizesOutOfRange}
+use Rattle.refusal.specs.declared.content.ContentFault.{ContentFault}
+use Rattle.refusal.specs.declared.content.ContentFault.the-variants.{SizesOutOfRange}
 use Rattle.std.specs.declared.result.Result.{Result}
 use Rattle.std.specs.declared.result.Result.the-variants.{Ok, Err}
 

@@ -1,76 +1,51 @@
 // The one table of refusals that every layer refuses from. A fault is a case of its layer's enum; `specs/Table.antt`
-// fixes for each case its number, its layer and what it names.
-ghost use Rattle.refusal.specs.Table.{number-of, layer-of, names-of};
-ghost use mathlib.Core.Path.{_≡_};
+// fixes for each case its number, its layer and what it names. A lower layer's fault lies inside the higher one.
+// `specs/Line.antt` fixes the line that reports a refused load to people.
+mod command;
+mod content;
+mod layer;
+mod line;
+mod list;
+mod load;
+mod reader;
 
-// Where a call is stopped, from the first check to the last.
-#[derive(Clone, Copy, PartialEq, Eq, Debug)]
-pub enum Layer {
-    Entry,
-    Reader,
-    Order,
-    Content,
-    Lists,
-    Session,
-}
-
-// What a refusal points at besides its number: nothing, or some of a console, a round and a number of rounds left.
-#[derive(Clone, Copy, PartialEq, Eq, Debug)]
-pub struct Names {
-    pub console: Option<u8>,
-    pub round: Option<u8>,
-    pub rounds_left: Option<u8>,
-}
-
-// The faults of the content layer.
-#[derive(Clone, Copy, PartialEq, Eq, Debug)]
-pub enum ContentFault {
-    // n is 0 or above 16, or f is not below n
-    SizesOutOfRange,
-}
-
-impl ContentFault {
-    pub fn number(self) -> u8
-        ensures { λ r. ⌜ r ≡ number-of self ⌝ }
-    {
-        match self {
-            ContentFault::SizesOutOfRange => 5,
-        }
-    }
-
-    pub fn layer(self) -> Layer
-        ensures { λ r. ⌜ r ≡ layer-of self ⌝ }
-    {
-        match self {
-            ContentFault::SizesOutOfRange => Layer::Content,
-        }
-    }
-
-    pub fn names(self) -> Names
-        ensures { λ r. ⌜ r ≡ names-of self ⌝ }
-    {
-        match self {
-            ContentFault::SizesOutOfRange => Names {
-                console: None,
-                round: None,
-                rounds_left: None,
-            },
-        }
-    }
-}
+pub use command::CommandFault;
+pub use command::CommandFaultDebug;
+pub use command::CommandFaultEq;
+pub use command::CommandFaultFromContent;
+pub use command::CommandFaultFromReader;
+pub use command::CommandFaultPartialEq;
+pub use content::ContentFault;
+pub use content::ContentFaultDebug;
+pub use content::ContentFaultEq;
+pub use content::ContentFaultPartialEq;
+pub use layer::Layer;
+pub use layer::LayerDebug;
+pub use layer::LayerEq;
+pub use layer::LayerPartialEq;
+pub use layer::Names;
+pub use layer::NamesDebug;
+pub use layer::NamesEq;
+pub use layer::NamesPartialEq;
+pub use line::Line;
+pub use list::ListFault;
+pub use list::ListFaultDebug;
+pub use list::ListFaultEq;
+pub use list::ListFaultPartialEq;
+pub use load::LoadFault;
+pub use load::LoadFaultDebug;
+pub use load::LoadFaultEq;
+pub use load::LoadFaultFromList;
+pub use load::LoadFaultFromStopped;
+pub use load::LoadFaultPartialEq;
+pub use load::Stopped;
+pub use load::StoppedDebug;
+pub use load::StoppedEq;
+pub use load::StoppedPartialEq;
+pub use reader::ReaderFault;
+pub use reader::ReaderFaultDebug;
+pub use reader::ReaderFaultEq;
+pub use reader::ReaderFaultPartialEq;
 
 #[cfg(test)]
-mod tests {
-    use super::*;
-    use std::test::*;
-
-    #[test]
-    fn sizes_out_of_range_is_five_of_content_and_names_nothing() -> Result<(), Fail> {
-        let fault = ContentFault::SizesOutOfRange;
-        check_eq(fault.number(), 5)?;
-        check_eq(fault.layer(), Layer::Content)?;
-        check_eq(fault.names().console, None)?;
-        check_eq(fault.names().round, None)?;
-        check_eq(fault.names().rounds_left, None)
-    }
-}
+mod tests;

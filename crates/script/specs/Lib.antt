@@ -1,0 +1,9 @@
+pub mod Admitted
+pub mod Fates
+pub mod Format
+pub mod Listing
+pub mod Loading
+pub mod Plans
+pub mod Reading
+pub mod Rules
+pub mod Verdict
