@@ -1,6 +1,4 @@
 // Joins the start cards of a ring of three in two orders, and prints who is lost and heard when on a staggered ring.
-mod shown;
-
 use carrier::Carrier;
 use carrier::ConsoleSet;
 use carrier::Staggered;

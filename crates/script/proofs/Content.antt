@@ -119,8 +119,7 @@ pub card-last : (l : Listing) (e : CardEntry) → length (l .crashes) ≡ 0 → 
 card-last l e none h =
     let rings = all-front _ (l .cards) e (h .cards-in-ring) in
     let apart = no-two-front _ (l .cards) e (h .one-card-each) in
-    let read = all-front _ (l .cards) e (h .cards-readable) in
-    (
+    let read = all-front _ (l .cards) e (h .cards-readable) in (
       record {
         sizes = h .sizes;
         cards-in-ring = rings .0;
@@ -134,9 +133,13 @@ card-last l e none h =
       },
       all-kept (rules (under-way l) (card e)) (
         le-ltb 0 (length (l .crashes)) (omega arith),
-        (lt-leb (l .n) (e .console) (rings .1),
-        (ap isSome (others-absent _ (e .console) (l .cards) (apart .1)),
-        (not-from-true _ (and-from _ _ (read .1 .0) (le-leb (e .delay) 15 (read .1 .1))), tt))),
+        (
+          lt-leb (l .n) (e .console) (rings .1),
+          (
+            ap isSome (others-absent _ (e .console) (l .cards) (apart .1)),
+            (not-from-true _ (and-from _ _ (read .1 .0) (le-leb (e .delay) 15 (read .1 .1))), tt),
+          ),
+        ),
       ),
     )
 
@@ -166,8 +169,7 @@ crash-last l e h =
     let times = all-front _ (l .crashes) e (h .rounds-in-time) in
     let heard = all-front _ (l .crashes) e (h .hearers-in-ring) in
     let apart = no-two-front _ (l .crashes) e (h .one-crash-each) in
-    let room : length (l .crashes) < l .f = omega (arith, h .few-crashes, length-append (l .crashes) (e ∷ [])) in
-    (
+    let room : length (l .crashes) < l .f = omega (arith, h .few-crashes, length-append (l .crashes) (e ∷ [])) in (
       record {
         sizes = h .sizes;
         cards-in-ring = h .cards-in-ring;
@@ -181,10 +183,16 @@ crash-last l e h =
       },
       all-kept (rules (under-way l) (crash e)) (
         lt-leb (l .n) (e .console) (rings .1),
-        (or-from _ _ (ne-eqb (e .round) 0 (λ z. omega (arith, times .1 .0))) (le-ltb (l .f + 1) (e .round) (times .1 .1)),
-        (lt-leb (2 ^ l .n) (e .hearers .bits) (below-hearers (l .n) (e .hearers .bits) (heard .1)),
-        (ap isSome (others-absent _ (e .console) (l .crashes) (apart .1)),
-        (lt-leb (l .f) (length (l .crashes)) room, tt)))),
+        (
+          or-from _ _ (ne-eqb (e .round) 0 (λ z. omega (arith, times .1 .0))) (le-ltb (l .f + 1) (e .round) (times .1 .1)),
+          (
+            lt-leb (2 ^ l .n) (e .hearers .bits) (below-hearers (l .n) (e .hearers .bits) (heard .1)),
+            (
+              ap isSome (others-absent _ (e .console) (l .crashes) (apart .1)),
+              (lt-leb (l .f) (length (l .crashes)) room, tt),
+            ),
+          ),
+        ),
       ),
     )
 

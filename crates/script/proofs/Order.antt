@@ -127,7 +127,7 @@ module _ (before : List Statement) (c : Statement) (whole : All Whole before) wh
       → Earlier before c (under-way (with-card l e))
   after-card l e none is h =
       let (front, last) =
-          same-from-push kept (ring-commands l) c (card e) (is ∙ sym (ap (λ xs. link (l .n) (l .f) ∷ xs) (card-order (l .cards) (l .crashes) e none))) in
+      same-from-push kept (ring-commands l) c (card e) (is ∙ sym (ap (λ xs. link (l .n) (l .f) ∷ xs) (card-order (l .cards) (l .crashes) e none))) in
       let (sound, passes) = card-last l e (ap length none) h in
       record {
         standing = under-way l;
@@ -166,8 +166,8 @@ module _ (before : List Statement) (c : Statement) (whole : All Whole before) wh
       → Sound (record { n = n; f = f; cards = cards; crashes = [] }) → Earlier before c (under-way (record { n = n; f = f; cards = cards; crashes = [] }))
   before-crashes n f cards is h =
       let P : List CardEntry → Type 0 =
-          λ xs. kept ++ c ∷ [] ≡ ring-commands (record { n = n; f = f; cards = xs; crashes = [] }) → Sound (record { n = n; f = f; cards = xs; crashes = [] })
-          → Earlier before c (under-way (record { n = n; f = f; cards = xs; crashes = [] })) in
+      λ xs. kept ++ c ∷ [] ≡ ring-commands (record { n = n; f = f; cards = xs; crashes = [] }) → Sound (record { n = n; f = f; cards = xs; crashes = [] })
+      → Earlier before c (under-way (record { n = n; f = f; cards = xs; crashes = [] })) in
       ⊎-elim
       (λ none. subst P (sym none) (after-link n f) is h)
       (λ l. subst P (sym (l .is)) (after-card (record { n = n; f = f; cards = l .front; crashes = [] }) (l .last) refl) is h)

@@ -70,17 +70,19 @@ pub card-taken : (p : Plan) (l : Listing) (e : CardEntry) (x : StartCard) → Ho
 card-taken p l e x h none below new is read =
     let inside : e .console < l .n = omega (arith, h .sizes .0) in
     let unlisted = sym (dealt-listed _ _ (h .cards (e .console))) ∙ new in
-    let passes = card-passes l e none inside unlisted read in
-    (passes, record {
-      phase = h .phase;
-      sizes = h .sizes;
-      cards = dealt-more (p .cards) (l .cards) e x (h .places) (omega (arith, h .content .sizes .1)) (h .cards) unlisted is;
-      places = length-set (p .cards) (e .console) (Some x) ∙ h .places;
-      fate = h .fate;
-      entries = h .entries;
-      losses = h .losses;
-      content = card-next l e (h .content) passes;
-    })
+    let passes = card-passes l e none inside unlisted read in (
+      passes,
+      record {
+        phase = h .phase;
+        sizes = h .sizes;
+        cards = dealt-more (p .cards) (l .cards) e x (h .places) (omega (arith, h .content .sizes .1)) (h .cards) unlisted is;
+        places = length-set (p .cards) (e .console) (Some x) ∙ h .places;
+        fate = h .fate;
+        entries = h .entries;
+        losses = h .losses;
+        content = card-next l e (h .content) passes;
+      },
+    )
 
 -- a console is lost by the table exactly where a crash is listed
 is-lost : Fate → Bool
@@ -158,17 +160,19 @@ pub crash-taken : (p : Plan) (l : Listing) (e : CrashEntry) (entries : List Loss
     → entries ≡ set (p .table .entries) (e .console) (loss-of e) → Takes (under-way l) (crash e) (Ok (plan-with-crash p e entries))
 crash-taken p l e entries h passes is =
     let k = none-broken (rules (under-way l) (crash e)) passes in
-    let below = leb-false (l .n) (e .console) (k .0) in
-    (passes, record {
-      phase = phase-push (l .crashes) e;
-      sizes = h .sizes;
-      cards = h .cards;
-      places = h .places;
-      fate = λ c. ap (λ xs. fates xs c) is ∙ fate-more (p .table .entries) (l .crashes) e (h .entries) (omega (arith, h .content .sizes .1)) (h .fate) (k .1 .1 .1 .0) c;
-      entries = ap length is ∙ length-set (p .table .entries) (e .console) (loss-of e) ∙ h .entries;
-      losses = omega (arith, h .losses, length-append (l .crashes) (e ∷ []));
-      content = crash-next l e (h .content) passes;
-    })
+    let below = leb-false (l .n) (e .console) (k .0) in (
+      passes,
+      record {
+        phase = phase-push (l .crashes) e;
+        sizes = h .sizes;
+        cards = h .cards;
+        places = h .places;
+        fate = λ c. ap (λ xs. fates xs c) is ∙ fate-more (p .table .entries) (l .crashes) e (h .entries) (omega (arith, h .content .sizes .1)) (h .fate) (k .1 .1 .1 .0) c;
+        entries = ap length is ∙ length-set (p .table .entries) (e .console) (loss-of e) ∙ h .entries;
+        losses = omega (arith, h .losses, length-append (l .crashes) (e ∷ []));
+        content = crash-next l e (h .content) passes;
+      },
+    )
 
 -- the lowest console without a card
 after-first : (n : ℕ) (cards : List CardEntry) (k : ℕ) → k < n → uncarded (suc k) cards ≡ Some k → uncarded n cards ≡ Some k
@@ -190,14 +194,16 @@ ring-is m n bits same few is = is ∙ ap everybody (omega arith)
 -- a plan whose last command is END
 pub end-taken : (p : Plan) (l : Listing) → Holds p (under-way l) → Passes (under-way l) end
     → Takes (under-way l) end (Ok (record { phase = Ended; sizes = p .sizes; cards = p .cards; table = p .table; losses = p .losses }))
-end-taken p l h passes =
-    (passes, record {
-      phase = refl;
-      sizes = h .sizes;
-      cards = h .cards;
-      places = h .places;
-      fate = h .fate;
-      entries = h .entries;
-      losses = h .losses;
-      content = (h .content, end-next l passes);
-    })
+end-taken p l h passes = (
+  passes,
+  record {
+    phase = refl;
+    sizes = h .sizes;
+    cards = h .cards;
+    places = h .places;
+    fate = h .fate;
+    entries = h .entries;
+    losses = h .losses;
+    content = (h .content, end-next l passes);
+  },
+)

@@ -11,15 +11,15 @@ use mathlib.Core.Path.{_≡_, refl, sym, ap, subst, _∙_}
 use native.Mathlib.Nat.{add-suc, suc-add}
 use native.Mathlib.Omega.{arith}
 use Rattle.std.proofs.shelf.Lists.{take-rest, drop-all}
-use Rattle.std.proofs.shelf.Tests.{cond-true, cond-false, cond-both, cases-bool, cases-lt, le-leb, lt-leb, leb-true, ne-eqb, eq-eqb, eqb-true, eqb-false}
+use Rattle.std.proofs.shelf.Tests.{cond-true, cond-false, cond-both, cases-bool, cases-lt, le-leb, lt-leb, leb-true, leb-false, ne-eqb, eq-eqb, eqb-true, eqb-false}
 use Rattle.refusal.specs.declared.reader.ReaderFault.{ReaderFault}
 use Rattle.refusal.specs.declared.reader.ReaderFault.the-variants.{NoCommand, Incomplete}
-use Rattle.script.specs.Format.{Statement, link, card, crash, remark, end, two-bytes, four-bytes, said, bytes-of, Whole, Bytes}
-use Rattle.std.specs.declared.result.Result.the-variants.{Ok}
+use Rattle.script.specs.Format.{Statement, link, card, crash, remark, end, two-bytes, four-bytes, said, bytes-of, Whole, width-of, Unknown, Unfinished, Bytes}
+use Rattle.std.specs.declared.result.Result.the-variants.{Ok, Err}
 use Rattle.script.specs.declared.command.Found.{Found}
 use Rattle.script.specs.declared.command.Command.{Command}
 use Rattle.script.specs.declared.command.Command.the-variants.{Link, Card, Crash, Remark, End}
-use Rattle.script.specs.Reading.{Reading, found, stopped, of-width, link-from, card-from, crash-from, remark-from, end-from, read-command, read-first, two-at, four-at, ReadAt}
+use Rattle.script.specs.Reading.{Reading, found, stopped, of-width, link-from, card-from, crash-from, remark-from, end-from, read-command, read-first, two-at, four-at, ReadAt, ReadBack}
 
 -- where there is a byte, the first one decides
 pub by-first : (bs : List ℕ) (b : ℕ) → 1 ≤ length bs → getD bs 0 0 ≡ b → read-first bs ≡ read-command b bs
@@ -157,6 +157,60 @@ read-back (remark text) w rest =
     ∙ λ i. found (remark (take-at text rest 8 w i)) (drop-at text rest 8 w i)
 read-back end w rest = by-first (bytes-of end ++ rest) 0x45 (omega arith) refl ∙ wide 1 (bytes-of end ++ rest) _ (omega arith)
 
+both-cond : {A B : Type 0} (t : Bool) (x y : A) (u v : B) (P : A → B → Type 0) → P x u → P y v → P (cond t x y) (cond t u v)
+both-cond true x y u v P yes-way no-way = yes-way
+both-cond false x y u v P yes-way no-way = no-way
+
+-- what a reading is, by how wide the command of the first byte is
+record ByWidth (bs : List ℕ) (reading : Reading) (width : ℕ) : Type 0 where
+  unknown : reading ≡ stopped NoCommand → width ≡ 0
+  unfinished : reading ≡ stopped Incomplete → length bs < width
+  is-unknown : width ≡ 0 → reading ≡ stopped NoCommand
+  is-unfinished : length bs < width → reading ≡ stopped Incomplete
+
+of-width-is : (k : ℕ) (bs : List ℕ) (s : Statement) → 1 ≤ k → ByWidth bs (of-width k bs s) k
+of-width-is k bs s pos = record {
+  unknown = cond-both (leb k (length bs)) _ _ (λ r. r ≡ stopped NoCommand → k ≡ 0)
+      (λ _ e. let z : _≡_ {A = ℕ} 0 1 = cc in absurd (omega arith)) (λ _ e. let z : _≡_ {A = ℕ} 0 1 = cc in absurd (omega arith));
+  unfinished = cond-both (leb k (length bs)) _ _ (λ r. r ≡ stopped Incomplete → length bs < k)
+      (λ _ e. let z : _≡_ {A = ℕ} 0 1 = cc in absurd (omega arith)) (λ short e. leb-false k (length bs) short);
+  is-unknown = λ e. absurd (omega arith);
+  is-unfinished = λ h. cond-false _ _ _ (lt-leb k (length bs) h);
+}
+
+read-by-width : (b : ℕ) (more : List ℕ) → ByWidth (b ∷ more) (read-first (b ∷ more)) (width-of b)
+read-by-width b more =
+    let bs = b ∷ more in
+    let P : Reading → ℕ → Type 0 = ByWidth bs in
+    subst (λ r. P r (width-of b)) (sym (by-first bs b (omega arith) refl))
+    (both-cond (eqb b 0x4C) _ _ _ _ P (of-width-is 3 bs _ (omega arith))
+    (both-cond (eqb b 0x50) _ _ _ _ P (of-width-is 10 bs _ (omega arith))
+    (both-cond (eqb b 0x43) _ _ _ _ P (of-width-is 5 bs _ (omega arith))
+    (both-cond (eqb b 0x52) _ _ _ _ P (of-width-is 9 bs _ (omega arith))
+    (both-cond (eqb b 0x45) _ _ _ _ P (of-width-is 1 bs _ (omega arith))
+    (record {
+      unknown = λ e. refl;
+      unfinished = λ e. let z : _≡_ {A = ℕ} 0 1 = cc in absurd (omega arith);
+      is-unknown = λ e. refl;
+      is-unfinished = λ h. absurd (omega arith);
+    }))))))
+
+pub unknown-since : (bs : List ℕ) → read-first bs ≡ stopped NoCommand → Unknown bs
+unknown-since [] e = let z : _≡_ {A = ℕ} 0 1 = cc in absurd (omega arith)
+unknown-since (b ∷ more) e = read-by-width b more .unknown e
+
+pub since-unknown : (bs : List ℕ) → Unknown bs → read-first bs ≡ stopped NoCommand
+since-unknown [] h = absurd h
+since-unknown (b ∷ more) h = read-by-width b more .is-unknown h
+
+pub unfinished-since : (bs : List ℕ) → read-first bs ≡ stopped Incomplete → Unfinished bs
+unfinished-since [] e = tt
+unfinished-since (b ∷ more) e = read-by-width b more .unfinished e
+
+pub since-unfinished : (bs : List ℕ) → Unfinished bs → read-first bs ≡ stopped Incomplete
+since-unfinished [] h = refl
+since-unfinished (b ∷ more) h = read-by-width b more .is-unfinished h
+
 pub bytes-from : (script : List ℕ) → Bytes script → (place : ℕ) → Bytes (drop place script)
 bytes-from script byte place i = subst (λ b. b < 256) (sym (getD-drop place script i 0)) (byte (place + i))
 
@@ -186,11 +240,11 @@ pub record RemarkAt (script : List ℕ) (place next : ℕ) (text : List ℕ) : T
 
 pub remark-at : (script : List ℕ) → Bytes script → (place : ℕ) (f : Found) (r : RefT (List ℕ)) → ReadAt script place (Ok f) → f .command ≡ Remark r → RemarkAt script place (f .next) (r .now)
 remark-at script byte place f r at is =
-    let e = at .0 ∙ ap (λ k. found (said k) (drop (f .next) script)) is in
+    let e = at .read ∙ ap (λ k. found (said k) (drop (f .next) script)) is in
     let here = sound (drop place script) (bytes-from script byte place) (remark (r .now)) _ e in
     record {
       read = e;
-      nine-on = omega (arith, at .2, ap (λ k. length (bytes-of (said k))) is, here .1);
+      nine-on = omega (arith, at .next-is, ap (λ k. length (bytes-of (said k))) is, here .1);
       inside = ⊎-elim (λ lt. lt) (λ ge. absurd (not-both _ Incomplete (remark (r .now)) _ (none-past script place ge) e)) (cases-lt place (length script));
     }
 
@@ -212,3 +266,15 @@ said-no-remark (Card e) text no-r = no-remark _ text refl
 said-no-remark (Crash e) text no-r = no-remark _ text refl
 said-no-remark (Remark r) text no-r = λ e. no-r r refl
 said-no-remark End text no-r = no-remark _ text refl
+
+pub read-back-anywhere : ReadBack
+read-back-anywhere c w before after = ap read-first (drop-append-seam before (bytes-of c ++ after)) ∙ read-back c w after
+
+-- what the reader answers where the first command of the bytes is refused
+pub refused-there : (script : List ℕ) (place : ℕ) (e : ReaderFault) → read-first (drop place script) ≡ stopped e → ReadAt script place (Err e)
+refused-there script place NoCommand is = (is, unknown-since (drop place script) is)
+refused-there script place Incomplete is = (is, unfinished-since (drop place script) is)
+
+pub refused-reading : (script : List ℕ) (place : ℕ) (e : ReaderFault) → ReadAt script place (Err e) → read-first (drop place script) ≡ stopped e
+refused-reading script place NoCommand at = at .0
+refused-reading script place Incomplete at = at .0

@@ -14,73 +14,19 @@ use Rattle.refusal.specs.declared.load.LoadFault.{LoadFault}
 use Rattle.refusal.specs.declared.load.Stopped.{Stopped}
 use Rattle.refusal.specs.declared.reader.ReaderFault.{ReaderFault}
 use Rattle.refusal.specs.declared.reader.ReaderFault.the-variants.{NoCommand, Incomplete}
-use Rattle.script.specs.Admitted.{commands-of, Says, Admitted, width-of, Unknown, Unfinished, FirstBroken, Unended, Breaks, no-command, incomplete, breaks-rule, behind-end, StoppedAt, Refused}
-use Rattle.script.specs.Format.{Statement, bytes-of, Whole, script-of, Bytes}
+use Rattle.script.specs.Admitted.{commands-of, Says, Admitted, FirstBroken, Unended, Breaks, no-command, incomplete, breaks-rule, behind-end, StoppedAt, Refused}
+use Rattle.script.specs.Format.{Statement, bytes-of, Whole, script-of, width-of, Unknown, Unfinished, Bytes}
 use Rattle.script.specs.Listing.{Listing}
-use Rattle.script.specs.Reading.{Reading, found, stopped, of-width, read-command, read-first}
+use Rattle.script.specs.Reading.{Reading, found, stopped, read-first}
 use Rattle.script.specs.Rules.{Standing, nothing, under-way, ended, rules, first-broken, advance}
-use Rattle.script.specs.Verdict.{Verdict, accepted, refused, refused-at, Judged, stops, goes, judge-command, judge-reading, judge, after-end, walk, verdict, Declared, VerdictIsDeclared, OneVerdict, ReadBack}
+use Rattle.script.specs.Verdict.{Verdict, accepted, refused, refused-at, Judged, stops, goes, judge-command, judge-reading, judge, after-end, walk, verdict, Declared, VerdictIsDeclared, OneVerdict}
 use Rattle.script.proofs.Content.{Passes}
 use Rattle.script.proofs.Entries.{Last, last-view, broken-first, first-is-broken}
 use Rattle.script.proofs.Order.{says-more, says-less}
-use Rattle.script.proofs.Reading.{by-first, sound, read-back, bytes-from}
+use Rattle.script.proofs.Reading.{sound, read-back, unknown-since, since-unknown, unfinished-since, since-unfinished}
 use Rattle.std.proofs.shelf.Tests.{cond-true, cond-false, cond-both, cases-bool, cases-lt, le-leb, lt-leb, leb-true, leb-false, ne-eqb}
 use Rattle.std.specs.declared.option.Option.{Option}
 use Rattle.std.specs.declared.option.Option.the-variants.{None, Some}
-
-both-cond : {A B : Type 0} (t : Bool) (x y : A) (u v : B) (P : A → B → Type 0) → P x u → P y v → P (cond t x y) (cond t u v)
-both-cond true x y u v P yes-way no-way = yes-way
-both-cond false x y u v P yes-way no-way = no-way
-
--- what a reading is, by how wide the command of the first byte is
-record ByWidth (bs : List ℕ) (reading : Reading) (width : ℕ) : Type 0 where
-  unknown : reading ≡ stopped NoCommand → width ≡ 0
-  unfinished : reading ≡ stopped Incomplete → length bs < width
-  is-unknown : width ≡ 0 → reading ≡ stopped NoCommand
-  is-unfinished : length bs < width → reading ≡ stopped Incomplete
-
-of-width-is : (k : ℕ) (bs : List ℕ) (s : Statement) → 1 ≤ k → ByWidth bs (of-width k bs s) k
-of-width-is k bs s pos = record {
-  unknown = cond-both (leb k (length bs)) _ _ (λ r. r ≡ stopped NoCommand → k ≡ 0)
-      (λ _ e. let z : _≡_ {A = ℕ} 0 1 = cc in absurd (omega arith)) (λ _ e. let z : _≡_ {A = ℕ} 0 1 = cc in absurd (omega arith));
-  unfinished = cond-both (leb k (length bs)) _ _ (λ r. r ≡ stopped Incomplete → length bs < k)
-      (λ _ e. let z : _≡_ {A = ℕ} 0 1 = cc in absurd (omega arith)) (λ short e. leb-false k (length bs) short);
-  is-unknown = λ e. absurd (omega arith);
-  is-unfinished = λ h. cond-false _ _ _ (lt-leb k (length bs) h);
-}
-
-read-by-width : (b : ℕ) (more : List ℕ) → ByWidth (b ∷ more) (read-first (b ∷ more)) (width-of b)
-read-by-width b more =
-    let bs = b ∷ more in
-    let P : Reading → ℕ → Type 0 = ByWidth bs in
-    subst (λ r. P r (width-of b)) (sym (by-first bs b (omega arith) refl))
-    (both-cond (eqb b 0x4C) _ _ _ _ P (of-width-is 3 bs _ (omega arith))
-    (both-cond (eqb b 0x50) _ _ _ _ P (of-width-is 10 bs _ (omega arith))
-    (both-cond (eqb b 0x43) _ _ _ _ P (of-width-is 5 bs _ (omega arith))
-    (both-cond (eqb b 0x52) _ _ _ _ P (of-width-is 9 bs _ (omega arith))
-    (both-cond (eqb b 0x45) _ _ _ _ P (of-width-is 1 bs _ (omega arith))
-    (record {
-      unknown = λ e. refl;
-      unfinished = λ e. let z : _≡_ {A = ℕ} 0 1 = cc in absurd (omega arith);
-      is-unknown = λ e. refl;
-      is-unfinished = λ h. absurd (omega arith);
-    }))))))
-
-unknown-since : (bs : List ℕ) → read-first bs ≡ stopped NoCommand → Unknown bs
-unknown-since [] e = let z : _≡_ {A = ℕ} 0 1 = cc in absurd (omega arith)
-unknown-since (b ∷ more) e = read-by-width b more .unknown e
-
-since-unknown : (bs : List ℕ) → Unknown bs → read-first bs ≡ stopped NoCommand
-since-unknown [] h = absurd h
-since-unknown (b ∷ more) h = read-by-width b more .is-unknown h
-
-unfinished-since : (bs : List ℕ) → read-first bs ≡ stopped Incomplete → Unfinished bs
-unfinished-since [] e = tt
-unfinished-since (b ∷ more) e = read-by-width b more .unfinished e
-
-since-unfinished : (bs : List ℕ) → Unfinished bs → read-first bs ≡ stopped Incomplete
-since-unfinished [] h = refl
-since-unfinished (b ∷ more) h = read-by-width b more .is-unfinished h
 
 -- what a judgement rests on
 pub record Goes (s : Standing) (bs : List ℕ) (t : Standing) (c : Statement) (rest : List ℕ) : Type 0 where
@@ -300,7 +246,7 @@ walk-over (suc n) before size s h rest k few =
     ⊎-elim
     (λ none. absurd (omega (arith, ap length none)))
     (λ l. subst (λ xs. Over k xs s rest) (sym (l .is)) (last-step n (l .front) (l .last) (omega (arith, ap length (l .is), length-append (l .front) (l .last ∷ []))) s
-        (subst (λ xs. Says xs s) (l .is) h) rest k (subst (λ xs. length (script-of xs ++ rest) < k) (l .is) few) (walk-over n)))
+    (subst (λ xs. Says xs s) (l .is) h) rest k (subst (λ xs. length (script-of xs ++ rest) < k) (l .is) few) (walk-over n)))
     (last-view before)
 
 behind : (l : Listing) (rest : List ℕ) (place count : ℕ) → {fault : CommandFault} → Breaks (ended l) rest fault → after-end l place count rest ≡ refused-at place count fault
@@ -368,6 +314,3 @@ verdict-is-declared script byte v = ((λ e. subst (Declared script) e (verdict-d
 
 pub one-verdict : OneVerdict
 one-verdict script byte = (verdict script, verdict-declared script byte, λ w h. sym (declared-verdict script w h))
-
-pub read-back-anywhere : ReadBack
-read-back-anywhere c w before after = ap read-first (drop-append-seam before (bytes-of c ++ after)) ∙ read-back c w after

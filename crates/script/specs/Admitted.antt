@@ -1,8 +1,7 @@
 -- Which scripts are admitted, and where and why any other is refused, declared over the list of its commands.
 use Prim.Native.Nat.{ℕ, suc, _+_, _≤_, _<_}
-use lib.Dec.{eqb}
 use lib.ListN.{length}
-use mathlib.Core.Bool.{Bool, true, false, cond}
+use mathlib.Core.Bool.{Bool, true, false}
 use mathlib.Core.List.{List, [], _∷_, _++_, map}
 use mathlib.Core.Path.{_≡_}
 use Rattle.carrier.specs.Sets.{Within, everybody}
@@ -12,7 +11,7 @@ use Rattle.refusal.specs.declared.command.CommandFault.the-variants.{Reader, No
 use Rattle.refusal.specs.declared.load.LoadFault.{LoadFault}
 use Rattle.refusal.specs.declared.load.Stopped.{Stopped}
 use Rattle.refusal.specs.declared.reader.ReaderFault.the-variants.{NoCommand, Incomplete}
-use Rattle.script.specs.Format.{Statement, link, card, crash, remark, end, bytes-of, Whole, script-of}
+use Rattle.script.specs.Format.{Statement, link, card, crash, remark, end, bytes-of, Whole, script-of, Unknown, Unfinished}
 use Rattle.script.specs.Listing.{Listing, has-card, region-for}
 use Rattle.script.specs.Rules.{Standing, nothing, under-way, ended, Rule, rules}
 use Rattle.script.specs.declared.command.CardEntry.{CardEntry}
@@ -83,18 +82,6 @@ pub record Admitted (script : List ℕ) (l : Listing) (count : ℕ) : Type 0 whe
   pub counted : count ≡ length commands
   pub short : length script ≤ 4096
 
--- how many bytes a command has, by its first; 0 where that is no command's
-abbrev pub width-of : ℕ → ℕ
-width-of b = cond (eqb b 0x4C) 3 (cond (eqb b 0x50) 10 (cond (eqb b 0x43) 5 (cond (eqb b 0x52) 9 (cond (eqb b 0x45) 1 0))))
-
-abbrev pub Unknown : List ℕ → Type 0
-Unknown [] = ⊥
-Unknown (b ∷ more) = width-of b ≡ 0
-
-abbrev pub Unfinished : List ℕ → Type 0
-Unfinished [] = Unit {0}
-Unfinished (b ∷ more) = length (b ∷ more) < width-of b
-
 -- the rule of that refusal is broken, and none that is judged earlier
 pub record FirstBroken (judged : List Rule) (fault : CommandFault) : Type 0 where
   pub earlier : List Rule
@@ -113,7 +100,7 @@ pub data Breaks (s : Standing) (rest : List ℕ) : CommandFault → Type 0 where
   no-command : Unended s → Unknown rest → Breaks s rest (Reader NoCommand)
   incomplete : Unended s → Unfinished rest → Breaks s rest (Reader Incomplete)
   breaks-rule : (fault : CommandFault) → Unended s → (c : Statement) (more : List ℕ) → Whole c → rest ≡ bytes-of c ++ more → FirstBroken (rules s c) fault
-    → Breaks s rest fault
+      → Breaks s rest fault
   behind-end : (l : Listing) → s ≡ ended l → (b : ℕ) (more : List ℕ) → rest ≡ b ∷ more → Breaks s rest NotAllowedHere
 
 -- whole commands stand before the place, so many of them, in order and within content, and what comes then is refused

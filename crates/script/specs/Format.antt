@@ -2,7 +2,9 @@
 use Prim.Native.Nat.{ℕ, _/_, _%_, _<_}
 use mathlib.Core.List.{List, [], _∷_, _++_}
 use mathlib.Core.Path.{_≡_}
+use lib.Dec.{eqb}
 use lib.ListN.{length, getD}
+use mathlib.Core.Bool.{cond}
 use Rattle.script.specs.declared.command.CardEntry.{CardEntry}
 use Rattle.script.specs.declared.command.CrashEntry.{CrashEntry}
 use Rattle.script.specs.declared.command.Command.{Command}
@@ -51,6 +53,19 @@ Whole end = Unit {0}
 abbrev pub script-of : List Statement → List ℕ
 script-of [] = []
 script-of (s ∷ more) = bytes-of s ++ script-of more
+
+-- how many bytes a command has, by its first; 0 where that is no command's
+abbrev pub width-of : ℕ → ℕ
+width-of b = cond (eqb b 0x4C) 3 (cond (eqb b 0x50) 10 (cond (eqb b 0x43) 5 (cond (eqb b 0x52) 9 (cond (eqb b 0x45) 1 0))))
+
+-- the bytes begin with no command, as their first byte tells; or they break off in the midst of one, or before it
+abbrev pub Unknown : List ℕ → Type 0
+Unknown [] = ⊥
+Unknown (b ∷ more) = width-of b ≡ 0
+
+abbrev pub Unfinished : List ℕ → Type 0
+Unfinished [] = Unit {0}
+Unfinished (b ∷ more) = length (b ∷ more) < width-of b
 
 -- every element is a byte
 abbrev pub Bytes : List ℕ → Type 0

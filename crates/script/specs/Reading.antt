@@ -8,7 +8,7 @@ use lib.ListN.{length, getD, take, drop}
 use denote.Ref.{RefT}
 use Rattle.refusal.specs.declared.reader.ReaderFault.{ReaderFault}
 use Rattle.refusal.specs.declared.reader.ReaderFault.the-variants.{NoCommand, Incomplete}
-use Rattle.script.specs.Format.{Statement, link, card, crash, remark, end, said, bytes-of}
+use Rattle.script.specs.Format.{Statement, link, card, crash, remark, end, said, bytes-of, Whole, Unknown, Unfinished}
 use Rattle.script.specs.declared.command.Command.{Command}
 use Rattle.script.specs.declared.command.Found.{Found}
 use Rattle.std.specs.declared.result.Result.{Result}
@@ -62,10 +62,23 @@ abbrev pub FirstOf : Reading → Result (Command × RefT (List ℕ)) ReaderFault
 FirstOf reading (Ok r) = reading ≡ found (said (r .0)) (r .1 .now)
 FirstOf reading (Err e) = reading ≡ stopped e
 
+-- the command stands there, whole, with its place and the place where the next one begins
+pub record StandsAt (script : List ℕ) (place : ℕ) (r : Found) : Type 0 where
+  pub read : read-first (drop place script) ≡ found (said (r .command)) (drop (r .next) script)
+  pub bytes : drop place script ≡ bytes-of (said (r .command)) ++ drop (r .next) script
+  pub whole : Whole (said (r .command))
+  pub place-is : r .place ≡ place
+  pub next-is : r .next ≡ place + length (bytes-of (said (r .command)))
+
+-- what stands at a place: a command, or a byte that is none, or less than a command, as at the end and past it
 abbrev pub ReadAt : List ℕ → ℕ → Result Found ReaderFault → Type 0
-ReadAt script place (Ok r) =
-    (read-first (drop place script) ≡ found (said (r .command)) (drop (r .next) script)) × (r .place ≡ place) × (r .next ≡ place + length (bytes-of (said (r .command))))
-ReadAt script place (Err e) = read-first (drop place script) ≡ stopped e
+ReadAt script place (Ok r) = StandsAt script place r
+ReadAt script place (Err NoCommand) = (read-first (drop place script) ≡ stopped NoCommand) × Unknown (drop place script)
+ReadAt script place (Err Incomplete) = (read-first (drop place script) ≡ stopped Incomplete) × Unfinished (drop place script)
+
+-- every command's bytes are read back as that command, wherever they stand
+abbrev pub ReadBack : Type 0
+ReadBack = (c : Statement) → Whole c → (before after : List ℕ) → read-first (drop (length before) (before ++ (bytes-of c ++ after))) ≡ found c after
 
 abbrev pub NoRemark : Result Found ReaderFault → Type 0
 NoRemark (Ok r) = (text : List ℕ) → said (r .command) ≡ remark text → ⊥
@@ -75,4 +88,4 @@ NoRemark (Err e) = Unit {0}
 pub data Matters (script : List ℕ) : ℕ → Result Found ReaderFault → Type 0 where
   here : (place : ℕ) (r : Result Found ReaderFault) → ReadAt script place r → NoRemark r → Matters script place r
   behind : (place : ℕ) (text rest : List ℕ) (r : Result Found ReaderFault) → read-first (drop place script) ≡ found (remark text) rest
-    → Matters script (place + 9) r → Matters script place r
+      → Matters script (place + 9) r → Matters script place r

@@ -1,16 +1,16 @@
 -- The verdict on a script: what it lists, or the one fault that it is refused with.
 use Prim.Native.Nat.{ℕ, zero, suc, _+_, _≤_, _<_}
 use lib.Dec.{leb}
-use lib.ListN.{length, drop}
+use lib.ListN.{length}
 use mathlib.Core.Bool.{cond}
-use mathlib.Core.List.{List, [], _∷_, _++_}
+use mathlib.Core.List.{List, [], _∷_}
 use mathlib.Core.Path.{_≡_}
 use Rattle.refusal.specs.declared.command.CommandFault.{CommandFault}
 use Rattle.refusal.specs.declared.command.CommandFault.the-variants.{Reader, NotAllowedHere}
 use Rattle.refusal.specs.declared.load.LoadFault.{LoadFault}
 use Rattle.refusal.specs.declared.reader.ReaderFault.the-variants.{Incomplete}
 use Rattle.script.specs.Admitted.{Admitted, Refused}
-use Rattle.script.specs.Format.{Statement, bytes-of, Whole, Bytes}
+use Rattle.script.specs.Format.{Statement, bytes-of, Bytes}
 use Rattle.script.specs.Listing.{Listing}
 use Rattle.script.specs.Reading.{Reading, found, stopped, read-first}
 use Rattle.script.specs.Rules.{Standing, nothing, under-way, ended, rules, first-broken, advance}
@@ -56,10 +56,10 @@ unfoldable pub walk : ℕ → Standing → (place count : ℕ) → List ℕ → 
 walk zero s place count bytes = refused-at place count (Reader Incomplete)
 walk (suc k) s place count bytes =
     elim (ending s) [
-      Some l ↦ after-end l place count bytes
-    | None ↦ elim (judge s bytes) [
-        stops fault ↦ refused-at place count fault
-      | goes t c rest ↦ walk k t (place + length (bytes-of c)) (suc count) rest
+      | Some l ↦ after-end l place count bytes
+      | None ↦ elim (judge s bytes) [
+        | stops fault ↦ refused-at place count fault
+        | goes t c rest ↦ walk k t (place + length (bytes-of c)) (suc count) rest
       ]
     ]
 
@@ -78,7 +78,3 @@ VerdictIsDeclared = (script : List ℕ) → Bytes script → (v : Verdict) → (
 -- every byte string has one verdict, and no other
 abbrev pub OneVerdict : Type 0
 OneVerdict = (script : List ℕ) → Bytes script → (v : Verdict) × Declared script v × ((w : Verdict) → Declared script w → w ≡ v)
-
--- every command's bytes are read back as that command, wherever they stand
-abbrev pub ReadBack : Type 0
-ReadBack = (c : Statement) → Whole c → (before after : List ℕ) → read-first (drop (length before) (before ++ (bytes-of c ++ after))) ≡ found c after

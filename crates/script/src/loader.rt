@@ -113,11 +113,7 @@ fn deal_out(dealt: &[Option<Card>; 16], n: u8, cards: &mut [Card])
 }
 
 // Fills the carrier and the first n cards from a script, or refuses and leaves both as they were.
-pub fn load(
-    script: &[u8],
-    carrier: &mut Scripted,
-    cards: &mut [Card],
-) -> Result<Loaded, LoadFault>
+pub fn load(script: &[u8], carrier: &mut Scripted, cards: &mut [Card]) -> Result<Loaded, LoadFault>
     ensures loads { λ r. ⌜ Loads (now (script .entry)) (now (carrier .entry)) (now (cards .entry)) r (now (carrier .exit)) (now (cards .exit)) ⌝ }
     ensures declared { λ _. ⌜ VerdictIsDeclared ⌝ }
     ensures one_verdict { λ _. ⌜ OneVerdict ⌝ }

@@ -1,5 +1,5 @@
 // Reads one command of a script.
-ghost use Rattle.script.specs.Reading.{read-first, link-from, card-from, crash-from, remark-from, end-from, FirstOf, ReadAt, Matters};
+ghost use Rattle.script.specs.Reading.{read-first, link-from, card-from, crash-from, remark-from, end-from, FirstOf, ReadAt, ReadBack, Matters};
 ghost use lib.ListN.{getD};
 ghost use mathlib.Core.Path.{_≡_};
 use crate::command::CardEntry;
@@ -23,7 +23,20 @@ fn card<'a>(bytes: &'a [u8]) -> Result<(Command<'a>, &'a [u8]), ReaderFault>
     requires { ⌜ getD (now bytes) 0 0 ≡ 0x50 ⌝ }
     ensures { λ r. ⌜ FirstOf (card-from (now (bytes .entry))) r ⌝ }
 {
-    let [0x50, console, letter, delay, m1, m0, s3, s2, s1, s0, rest @ ..] = bytes else {
+    let [
+        0x50,
+        console,
+        letter,
+        delay,
+        m1,
+        m0,
+        s3,
+        s2,
+        s1,
+        s0,
+        rest @ ..,
+    ] = bytes
+    else {
         return Err(ReaderFault::Incomplete);
     };
     let card = CardEntry {
@@ -78,7 +91,8 @@ fn first<'a>(bytes: &'a [u8]) -> Result<(Command<'a>, &'a [u8]), ReaderFault>
 
 // The command at a place, which may be any number.
 pub fn read<'a>(script: &'a [u8], place: usize) -> Result<Found<'a>, ReaderFault>
-    ensures { λ r. ⌜ ReadAt (now (script .entry)) place r ⌝ }
+    ensures stands { λ r. ⌜ ReadAt (now (script .entry)) place r ⌝ }
+    ensures read_back { λ _. ⌜ ReadBack ⌝ }
 {
     if place > script.len() {
         return Err(ReaderFault::Incomplete);
