@@ -27,3 +27,6 @@ pub use reader::matters;
 pub use reader::read;
 pub use scripted::Scripted;
 pub use scripted_carrier::ScriptedCarrier;
+
+#[cfg(test)]
+mod tests;
