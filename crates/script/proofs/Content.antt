@@ -1,33 +1,31 @@
 -- What a command adds to what stands, rule by rule: a command that breaks no rule keeps what is listed sound, and the last
 -- command of what is soundly listed breaks no rule.
-use Prim.Native.Nat.{ℕ, zero, suc, _+_, _-_, _^_, _≤_, _<_}
-use lib.Bits.{bitAnd}
+use Prim.Native.Nat.{ℕ, zero, suc, _+_, _^_, _<_}
 use lib.Dec.{eqb, leb, ltb}
 use lib.ListN.{length, length-append}
 use lib.Pow.{pow-pos}
-use mathlib.Core.Bool.{Bool, true, false, cond, not, _||_, _&&_}
-use mathlib.Core.List.{List, [], _∷_, _++_, map, append-nil, append-assoc}
-use mathlib.Core.Logic.{_⊎_, inl, inr, ⊎-elim}
+use mathlib.Core.Bool.{true, cond, _&&_}
+use mathlib.Core.List.{List, [], _∷_}
+use mathlib.Core.Logic.{⊎-elim}
 use mathlib.Core.Path.{_≡_, refl, sym, ap, subst, _∙_}
 use native.Mathlib.Omega.{arith}
 use Rattle.carrier.proofs.Digits.{bit-above}
 use Rattle.carrier.proofs.Sets.{everybody-members, within-and}
-use Rattle.carrier.specs.Sets.{Member, Within, everybody}
+use Rattle.carrier.specs.Sets.{Within, everybody}
 use Rattle.carrier.specs.Sizes.{InRange}
-use Rattle.script.specs.Admitted.{NoTwo, Sound, Complete}
-use Rattle.script.specs.Format.{Statement, link, card, crash, remark, end}
-use Rattle.script.specs.Listing.{Listing, entry-for, card-for, has-card, has-crash, otherwise, uncarded, region-for}
-use Rattle.script.specs.Rules.{Standing, nothing, under-way, ended, in-range, readable, rules, first-broken, with-card, with-crash, missing-card}
+use Rattle.script.specs.Admitted.{Sound, Complete}
+use Rattle.script.specs.Format.{Statement, link, card, crash, end}
+use Rattle.script.specs.Listing.{Listing, has-card, otherwise, uncarded, region-for}
+use Rattle.script.specs.Rules.{Standing, nothing, under-way, in-range, rules, first-broken, with-card, with-crash, missing-card}
 use Rattle.script.specs.declared.command.CardEntry.{CardEntry}
 use Rattle.script.specs.declared.command.CrashEntry.{CrashEntry}
 use Rattle.script.proofs.Entries.{all-front, no-two-push, no-two-front, absent-others, others-absent, none-broken, all-kept}
 use Rattle.std.proofs.shelf.Bits.{and-mask, mod-below}
 use Rattle.std.proofs.shelf.Elements.{all-push}
-use Rattle.std.proofs.shelf.Tests.{cond-true, cond-false, cond-both, cases-bool, cases-lt, both-ways, leb-true, leb-false, le-leb, lt-leb, ltb-true, ltb-false, lt-ltb, le-ltb, eqb-false, ne-eqb, not-false, not-from-true, and-parts, and-from, or-parts, or-from}
+use Rattle.std.proofs.shelf.Tests.{cond-true, cond-false, cases-bool, cases-lt, both-ways, leb-true, leb-false, le-leb, lt-leb, ltb-true, ltb-false, lt-ltb, le-ltb, eqb-false, ne-eqb, not-false, not-from-true, and-parts, and-from, or-parts, or-from}
 use Rattle.std.specs.Options.{isSome}
 use Rattle.std.specs.declared.option.Option.{Option}
 use Rattle.std.specs.declared.option.Option.the-variants.{None, Some}
-use Rattle.std.specs.shelf.Lists.{All}
 
 -- the command breaks none of its rules there
 abbrev pub Passes : Standing → Statement → Type 0

@@ -3,6 +3,7 @@ pub mod Entries
 pub mod Legal
 pub mod Loads
 pub mod Order
+pub mod Places
 pub mod Plans
 pub mod Reading
 pub mod Verdicts

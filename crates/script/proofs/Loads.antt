@@ -3,8 +3,8 @@ use Prim.Native.Nat.{ℕ, zero, suc, _+_, _-_, _≤_, _<_}
 use lib.ListN.{length, getD, set, drop, length-drop, length-append}
 use lib.Seq.{getD-set-same, getD-set-other, getD-drop, ext-getD}
 use mathlib.Core.Bool.{Bool, true, false, cond, not}
-use mathlib.Core.List.{List, [], _∷_, _++_}
-use mathlib.Core.Logic.{_⊎_, ⊎-elim}
+use mathlib.Core.List.{List, [], _∷_}
+use mathlib.Core.Logic.{⊎-elim}
 use mathlib.Core.Path.{_≡_, refl, sym, ap, subst, _∙_}
 use native.Mathlib.Numerals.{add-one}
 use native.Mathlib.Omega.{arith}
@@ -13,18 +13,17 @@ use Rattle.carrier.specs.Losses.{Fate, stays, lost, losing}
 use Rattle.carrier.specs.Sets.{Member, Within, everybody}
 use lib.Dec.{eqb}
 use Rattle.joining.specs.Card.{StartCard}
-use Rattle.refusal.specs.declared.command.CommandFault.{CommandFault}
 use Rattle.refusal.specs.declared.command.CommandFault.the-variants.{NotAllowedHere}
 use Rattle.refusal.specs.declared.load.LoadFault.{LoadFault}
 use Rattle.refusal.specs.declared.load.Stopped.{Stopped}
-use Rattle.script.specs.Admitted.{NoTwo, Sound, Complete, Unended}
+use Rattle.script.specs.Admitted.{NoTwo, Sound, Unended}
 use Rattle.script.specs.Fates.{fates, one-if-lost, losses-below, Within-ring, Legal}
-use Rattle.script.specs.Format.{Statement, bytes-of, Bytes}
-use Rattle.script.specs.Listing.{Listing, CardFor, entry-for, card-for, crash-for, has-card, has-crash, fate-of-entry, listed-fate}
-use Rattle.script.specs.Loading.{pattern-of, CarrierLeft, CardsLeft}
-use Rattle.script.specs.Plans.{phase-behind, phase-of, Dealt, Holds, JudgedOn, Judges, Steps, ReadTo, Filled}
+use Rattle.script.specs.Format.{bytes-of, Bytes}
+use Rattle.script.specs.Listing.{Listing, CardFor, entry-for, crash-for, fate-of-entry, listed-fate}
+use Rattle.script.specs.Loading.{CarrierLeft, CardsLeft}
+use Rattle.script.specs.Plans.{phase-behind, Dealt, Holds, JudgedOn, ReadTo, Filled}
 use Rattle.script.specs.Rules.{Standing, nothing, under-way, ended, advance}
-use Rattle.script.specs.Verdict.{Verdict, accepted, refused, refused-at, stops, goes, judge, after-end, walk, verdict}
+use Rattle.script.specs.Verdict.{accepted, refused, refused-at, stops, judge, after-end, walk, verdict}
 use Rattle.script.specs.declared.command.CardEntry.{CardEntry}
 use Rattle.script.specs.declared.command.CrashEntry.{CrashEntry}
 use Rattle.script.specs.declared.loader.Progress.{Progress}
@@ -32,11 +31,10 @@ use Rattle.script.specs.declared.plan.Phase.{Phase}
 use Rattle.script.specs.declared.plan.Phase.the-variants.{Opening, Cards, Crashes, Ended}
 use Rattle.script.specs.declared.plan.Plan.{Plan}
 use Rattle.script.specs.declared.scripted.Scripted.{Scripted}
-use Rattle.script.proofs.Entries.{others-absent}
 use Rattle.script.proofs.Reading.{bytes-from}
 use Rattle.script.proofs.Verdicts.{Goes, judge-goes, walk-stops, walk-goes, walk-ends, judged-whole, not-empty}
 use Rattle.std.proofs.shelf.Elements.{all-weaker}
-use Rattle.std.proofs.shelf.Tests.{cases-lt, cases-eq, cond-true, cond-false, cond-both, eq-eqb, ne-eqb, eqb-true, both-ways}
+use Rattle.std.proofs.shelf.Tests.{cases-lt, cases-eq, cond-true, cond-false, cond-both, eq-eqb, ne-eqb, both-ways}
 use Rattle.std.specs.Options.{isSome, valueOr}
 use Rattle.std.specs.declared.option.Option.{Option}
 use Rattle.std.specs.declared.option.Option.the-variants.{None, Some}

@@ -1,12 +1,11 @@
 -- What commands say, one command more and one command less.
 use Prim.Native.Nat.{ℕ}
 use lib.ListN.{length}
-use mathlib.Core.Bool.{Bool, true, false, cond}
+use mathlib.Core.Bool.{true}
 use mathlib.Core.List.{List, [], _∷_, _++_, map, append-nil, append-assoc}
-use mathlib.Core.Logic.{_⊎_, inl, inr, ⊎-elim}
+use mathlib.Core.Logic.{⊎-elim}
 use mathlib.Core.Path.{_≡_, refl, sym, ap, subst, _∙_}
 use native.Mathlib.Omega.{arith}
-use Rattle.refusal.specs.declared.command.CommandFault.{CommandFault}
 use Rattle.script.specs.Admitted.{Sound, Complete, ring-commands, commands-of, no-remark, Says, Unended}
 use Rattle.script.specs.Format.{Statement, link, card, crash, remark, end, Whole}
 use Rattle.script.specs.Listing.{Listing}
@@ -14,12 +13,11 @@ use Rattle.script.specs.Rules.{Standing, nothing, under-way, ended, advance, w
 use Rattle.script.specs.declared.command.CardEntry.{CardEntry}
 use Rattle.script.specs.declared.command.CrashEntry.{CrashEntry}
 use Rattle.script.proofs.Content.{Passes, link-next, link-last, card-next, card-last, no-crashes, crash-next, crash-last, end-next, end-last}
-use Rattle.script.proofs.Entries.{Last, last-view, push-not-empty, all-front}
+use Rattle.script.proofs.Entries.{last-view, push-not-empty, all-front}
 use Rattle.std.proofs.shelf.Elements.{all-push, kept-by-append}
 use Rattle.std.proofs.shelf.Lists.{map-push, same-from-push}
 use Rattle.std.proofs.shelf.Tests.{cond-true, both-ways}
 use Rattle.std.specs.Options.{isSome}
-use Rattle.std.specs.declared.option.Option.{Option}
 use Rattle.std.specs.declared.option.Option.the-variants.{None, Some}
 use Rattle.std.specs.shelf.Lists.{All, kept-by}
 
@@ -31,7 +29,7 @@ kept-none : (before : List Statement) (text : List ℕ) → kept-by no-remark (b
 kept-none before text = kept-by-append no-remark before (remark text ∷ []) ∙ append-nil (kept-by no-remark before)
 
 -- CARDs before CRASHes
-card-order : (cards : List CardEntry) (crashes : List CrashEntry) (e : CardEntry) → crashes ≡ []
+pub card-order : (cards : List CardEntry) (crashes : List CrashEntry) (e : CardEntry) → crashes ≡ []
     → (map card cards ++ map crash crashes) ++ card e ∷ [] ≡ map card (cards ++ e ∷ []) ++ map crash crashes
 card-order cards crashes e none =
     ap (λ xs. (map card cards ++ map crash xs) ++ card e ∷ []) none
@@ -40,11 +38,11 @@ card-order cards crashes e none =
     ∙ sym (append-nil (map card (cards ++ e ∷ [])))
     ∙ ap (λ xs. map card (cards ++ e ∷ []) ++ map crash xs) (sym none)
 
-crash-order : (cards : List CardEntry) (crashes : List CrashEntry) (e : CrashEntry)
+pub crash-order : (cards : List CardEntry) (crashes : List CrashEntry) (e : CrashEntry)
     → (map card cards ++ map crash crashes) ++ crash e ∷ [] ≡ map card cards ++ map crash (crashes ++ e ∷ [])
 crash-order cards crashes e = append-assoc (map card cards) (map crash crashes) (crash e ∷ []) ∙ ap (λ xs. map card cards ++ xs) (sym (map-push crash crashes e))
 
-empty-since : {A : Type 0} (xs : List A) → length xs ≡ 0 → xs ≡ []
+pub empty-since : {A : Type 0} (xs : List A) → length xs ≡ 0 → xs ≡ []
 empty-since [] h = refl
 empty-since (x ∷ xs) h = absurd (omega arith)
 

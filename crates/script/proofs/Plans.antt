@@ -3,22 +3,21 @@ use Prim.Native.Nat.{ℕ, zero, suc, _+_, _^_, _≤_, _<_, min}
 use lib.Dec.{eqb, leb, ltb}
 use lib.ListN.{length, getD, set, length-append, length-set}
 use lib.Seq.{getD-set-same, getD-set-other}
-use mathlib.Core.Bool.{Bool, true, false, cond, not, _||_}
+use mathlib.Core.Bool.{Bool, true, false, cond, _||_}
 use mathlib.Core.List.{List, [], _∷_, _++_}
-use mathlib.Core.Logic.{_⊎_, ⊎-elim}
+use mathlib.Core.Logic.{⊎-elim}
 use mathlib.Core.Path.{_≡_, refl, sym, ap, subst, _∙_}
 use native.Mathlib.Omega.{arith}
 use Rattle.carrier.specs.Losses.{Fate, stays, lost}
 use Rattle.carrier.specs.Sets.{Within, everybody}
 use Rattle.joining.specs.Card.{StartCard}
 use Rattle.refusal.specs.declared.command.CommandFault.the-variants.{Content}
-use Rattle.refusal.specs.declared.content.ContentFault.the-variants.{ConsoleOutOfRange, SecondCard, CardOutOfRange, RoundOutOfRange, HearersOutOfRange, SecondCrash, TooManyCrashes, CardMissing}
-use Rattle.script.specs.Admitted.{Sound}
+use Rattle.refusal.specs.declared.content.ContentFault.the-variants.{HearersOutOfRange, SecondCrash, TooManyCrashes}
 use Rattle.script.specs.Fates.{no-loss, fate-of, fates}
-use Rattle.script.specs.Format.{Statement, link, card, crash, remark, end}
-use Rattle.script.specs.Listing.{Listing, CardFor, entry-for, card-for, crash-for, has-card, has-crash, otherwise, uncarded, fate-of-entry, listed-fate}
+use Rattle.script.specs.Format.{card, crash, end}
+use Rattle.script.specs.Listing.{Listing, CardFor, card-for, has-card, has-crash, otherwise, uncarded, fate-of-entry, listed-fate}
 use Rattle.script.specs.Plans.{phase-behind, Dealt, Holds, Takes}
-use Rattle.script.specs.Rules.{Standing, nothing, under-way, ended, readable, rules, first-broken, with-card, with-crash}
+use Rattle.script.specs.Rules.{under-way, readable, rules, first-broken}
 use Rattle.script.specs.declared.command.CardEntry.{CardEntry}
 use Rattle.script.specs.declared.command.CrashEntry.{CrashEntry}
 use Rattle.script.specs.declared.plan.Phase.the-variants.{Crashes, Ended}
@@ -30,8 +29,7 @@ use Rattle.std.proofs.shelf.Tests.{cond-true, cond-false, cases-lt, cases-eq, l
 use Rattle.std.specs.Options.{isSome}
 use Rattle.std.specs.declared.option.Option.{Option}
 use Rattle.std.specs.declared.option.Option.the-variants.{None, Some}
-use Rattle.std.specs.declared.result.Result.the-variants.{Ok, Err}
-use Rattle.std.specs.shelf.Lists.{All}
+use Rattle.std.specs.declared.result.Result.the-variants.{Ok}
 
 -- a card lies in the table exactly where one is listed
 pub dealt-listed : (x : Option StartCard) (o : Option CardEntry) → Dealt x o → isSome x ≡ isSome o

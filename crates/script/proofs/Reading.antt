@@ -6,12 +6,11 @@ use lib.Seq.{drop-cons, drop-drop, drop-append-seam, getD-drop, length-take-le, 
 use denote.Ref.{RefT}
 use mathlib.Core.Bool.{Bool, true, false, cond}
 use mathlib.Core.List.{List, [], _∷_, _++_}
-use mathlib.Core.Logic.{_⊎_, ⊎-elim}
+use mathlib.Core.Logic.{⊎-elim}
 use mathlib.Core.Path.{_≡_, refl, sym, ap, subst, _∙_}
-use native.Mathlib.Nat.{add-suc, suc-add}
 use native.Mathlib.Omega.{arith}
 use Rattle.std.proofs.shelf.Lists.{take-rest, drop-all}
-use Rattle.std.proofs.shelf.Tests.{cond-true, cond-false, cond-both, cases-bool, cases-lt, le-leb, lt-leb, leb-true, leb-false, ne-eqb, eq-eqb, eqb-true, eqb-false}
+use Rattle.std.proofs.shelf.Tests.{cond-true, cond-false, cond-both, cases-bool, cases-lt, le-leb, lt-leb, leb-true, leb-false, ne-eqb, eqb-true}
 use Rattle.refusal.specs.declared.reader.ReaderFault.{ReaderFault}
 use Rattle.refusal.specs.declared.reader.ReaderFault.the-variants.{NoCommand, Incomplete}
 use Rattle.script.specs.Format.{Statement, link, card, crash, remark, end, two-bytes, four-bytes, said, bytes-of, Whole, width-of, Unknown, Unfinished, Bytes}
@@ -19,7 +18,7 @@ use Rattle.std.specs.declared.result.Result.the-variants.{Ok, Err}
 use Rattle.script.specs.declared.command.Found.{Found}
 use Rattle.script.specs.declared.command.Command.{Command}
 use Rattle.script.specs.declared.command.Command.the-variants.{Link, Card, Crash, Remark, End}
-use Rattle.script.specs.Reading.{Reading, found, stopped, of-width, link-from, card-from, crash-from, remark-from, end-from, read-command, read-first, two-at, four-at, ReadAt, ReadBack}
+use Rattle.script.specs.Reading.{Reading, found, stopped, of-width, read-command, read-first, two-at, four-at, ReadAt, ReadBack}
 
 -- where there is a byte, the first one decides
 pub by-first : (bs : List ℕ) (b : ℕ) → 1 ≤ length bs → getD bs 0 0 ≡ b → read-first bs ≡ read-command b bs

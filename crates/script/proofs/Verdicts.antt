@@ -1,30 +1,28 @@
 -- The verdict is what is declared, and nothing else is.
 use Prim.Native.Nat.{ℕ, zero, suc, _+_, _≤_, _<_}
-use lib.Dec.{eqb, leb}
-use lib.ListN.{length, getD, drop, length-append}
-use lib.Seq.{drop-append-seam, getD-append-add}
-use mathlib.Core.Bool.{Bool, true, false, cond}
+use lib.ListN.{length, length-append}
+use lib.Seq.{getD-append-add}
 use mathlib.Core.List.{List, [], _∷_, _++_, append-nil, append-assoc}
-use mathlib.Core.Logic.{_⊎_, inl, inr, ⊎-elim}
+use mathlib.Core.Logic.{⊎-elim}
 use mathlib.Core.Path.{_≡_, refl, sym, ap, subst, _∙_}
 use native.Mathlib.Omega.{arith}
 use Rattle.refusal.specs.declared.command.CommandFault.{CommandFault}
-use Rattle.refusal.specs.declared.command.CommandFault.the-variants.{Reader, NotAllowedHere}
+use Rattle.refusal.specs.declared.command.CommandFault.the-variants.{Reader, NotAllowedHere, Content}
 use Rattle.refusal.specs.declared.load.LoadFault.{LoadFault}
 use Rattle.refusal.specs.declared.load.Stopped.{Stopped}
-use Rattle.refusal.specs.declared.reader.ReaderFault.{ReaderFault}
 use Rattle.refusal.specs.declared.reader.ReaderFault.the-variants.{NoCommand, Incomplete}
-use Rattle.script.specs.Admitted.{commands-of, Says, Admitted, FirstBroken, Unended, Breaks, no-command, incomplete, breaks-rule, behind-end, StoppedAt, Refused}
-use Rattle.script.specs.Format.{Statement, bytes-of, Whole, script-of, width-of, Unknown, Unfinished, Bytes}
+use Rattle.script.specs.Admitted.{commands-of, Says, Admitted, Unended, Breaks, no-command, incomplete, misplaced, breaks-content, behind-end, StoppedAt, Refused}
+use Rattle.script.specs.Format.{Statement, bytes-of, Whole, script-of, Bytes}
 use Rattle.script.specs.Listing.{Listing}
 use Rattle.script.specs.Reading.{Reading, found, stopped, read-first}
 use Rattle.script.specs.Rules.{Standing, nothing, under-way, ended, rules, first-broken, advance}
 use Rattle.script.specs.Verdict.{Verdict, accepted, refused, refused-at, Judged, stops, goes, judge-command, judge-reading, judge, after-end, walk, verdict, Declared, VerdictIsDeclared, OneVerdict}
 use Rattle.script.proofs.Content.{Passes}
-use Rattle.script.proofs.Entries.{Last, last-view, broken-first, first-is-broken}
+use Rattle.script.proofs.Entries.{last-view, broken-first, first-is-broken}
 use Rattle.script.proofs.Order.{says-more, says-less}
+use Rattle.script.proofs.Places.{by-place}
 use Rattle.script.proofs.Reading.{sound, read-back, unknown-since, since-unknown, unfinished-since, since-unfinished}
-use Rattle.std.proofs.shelf.Tests.{cond-true, cond-false, cond-both, cases-bool, cases-lt, le-leb, lt-leb, leb-true, leb-false, ne-eqb}
+use Rattle.std.proofs.shelf.Tests.{cond-true, cond-false, cases-lt, le-leb, lt-leb}
 use Rattle.std.specs.declared.option.Option.{Option}
 use Rattle.std.specs.declared.option.Option.the-variants.{None, Some}
 
@@ -34,6 +32,13 @@ pub record Goes (s : Standing) (bs : List ℕ) (t : Standing) (c : Statement) (r
   pub whole : Whole c
   pub passes : Passes s c
   pub advances : advance s c ≡ t
+
+-- a refusal by the rules, for the place or for the content
+refused-rule : (s : Standing) (bs : List ℕ) (c : Statement) (rest : List ℕ) → Unended s → Whole c → bs ≡ bytes-of c ++ rest → (fault : CommandFault)
+    → first-broken (rules s c) ≡ Some fault → Breaks s bs fault
+refused-rule s bs c rest u w is (Reader e) h = absurd (by-place s c u .no-reader e h)
+refused-rule s bs c rest u w is NotAllowedHere h = misplaced u c rest w is (by-place s c u .is-misplaced h)
+refused-rule s bs c rest u w is (Content e) h = breaks-content e u c rest w is (broken-first (rules s c) (Content e) h)
 
 module _ (s : Standing) (bs : List ℕ) (byte : Bytes bs) where
   command-goes : (c : Statement) (rest : List ℕ) (t : Standing) (d : Statement) (more : List ℕ) (o : Option CommandFault) → read-first bs ≡ found c rest
@@ -57,7 +62,7 @@ module _ (s : Standing) (bs : List ℕ) (byte : Bytes bs) where
   command-stops c rest fault (Some other) u r o e =
       let same : Some other ≡ Some fault = cc in
       let here = sound bs byte c rest r in
-      breaks-rule fault u c rest (here .1) (here .0) (broken-first (rules s c) fault (o ∙ same))
+      refused-rule s bs c rest u (here .1) (here .0) fault (o ∙ same)
 
   reading-goes : (t : Standing) (d : Statement) (more : List ℕ) (r : Reading) → read-first bs ≡ r → judge-reading s r ≡ goes t d more → Goes s bs t d more
   reading-goes t d more (stopped e) r is = let z : _≡_ {A = ℕ} 0 1 = cc in absurd (omega arith)
@@ -84,8 +89,10 @@ breaks-judge : (s : Standing) (bs : List ℕ) → Unended s → {fault : Command
 unfolding judge
 breaks-judge s bs u (no-command v h) = ap (judge-reading s) (since-unknown bs h)
 breaks-judge s bs u (incomplete v h) = ap (judge-reading s) (since-unfinished bs h)
-breaks-judge s bs u (breaks-rule fault v c more w is h) =
-    ap (λ x. judge-reading s (read-first x)) is ∙ ap (judge-reading s) (read-back c w more) ∙ ap (judge-command s c more) (first-is-broken (rules s c) fault h)
+breaks-judge s bs u (misplaced v c more w is h) =
+    ap (λ x. judge-reading s (read-first x)) is ∙ ap (judge-reading s) (read-back c w more) ∙ ap (judge-command s c more) (by-place s c u .is-refused h)
+breaks-judge s bs u (breaks-content fault v c more w is h) =
+    ap (λ x. judge-reading s (read-first x)) is ∙ ap (judge-reading s) (read-back c w more) ∙ ap (judge-command s c more) (first-is-broken (rules s c) (Content fault) h)
 breaks-judge s bs u (behind-end l is b more at) = absurd (subst Unended is u)
 
 -- one command of a walk
@@ -252,7 +259,8 @@ walk-over (suc n) before size s h rest k few =
 behind : (l : Listing) (rest : List ℕ) (place count : ℕ) → {fault : CommandFault} → Breaks (ended l) rest fault → after-end l place count rest ≡ refused-at place count fault
 behind l rest place count (no-command u h) = absurd u
 behind l rest place count (incomplete u h) = absurd u
-behind l rest place count (breaks-rule fault u c more w is h) = absurd u
+behind l rest place count (misplaced u c more w is h) = absurd u
+behind l rest place count (breaks-content fault u c more w is h) = absurd u
 behind l rest place count (behind-end m is b more at) = ap (after-end l place count) at
 
 module _ (script : List ℕ) where

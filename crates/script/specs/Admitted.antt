@@ -1,5 +1,5 @@
 -- Which scripts are admitted, and where and why any other is refused, declared over the list of its commands.
-use Prim.Native.Nat.{ℕ, suc, _+_, _≤_, _<_}
+use Prim.Native.Nat.{ℕ, _+_, _≤_, _<_}
 use lib.ListN.{length}
 use mathlib.Core.Bool.{Bool, true, false}
 use mathlib.Core.List.{List, [], _∷_, _++_, map}
@@ -7,15 +7,14 @@ use mathlib.Core.Path.{_≡_}
 use Rattle.carrier.specs.Sets.{Within, everybody}
 use Rattle.carrier.specs.Sizes.{InRange}
 use Rattle.refusal.specs.declared.command.CommandFault.{CommandFault}
-use Rattle.refusal.specs.declared.command.CommandFault.the-variants.{Reader, NotAllowedHere}
+use Rattle.refusal.specs.declared.command.CommandFault.the-variants.{Reader, NotAllowedHere, Content}
+use Rattle.refusal.specs.declared.content.ContentFault.{ContentFault}
 use Rattle.refusal.specs.declared.load.LoadFault.{LoadFault}
 use Rattle.refusal.specs.declared.load.Stopped.{Stopped}
 use Rattle.refusal.specs.declared.reader.ReaderFault.the-variants.{NoCommand, Incomplete}
 use Rattle.script.specs.Format.{Statement, link, card, crash, remark, end, bytes-of, Whole, script-of, Unknown, Unfinished}
 use Rattle.script.specs.Listing.{Listing, has-card, region-for}
 use Rattle.script.specs.Rules.{Standing, nothing, under-way, ended, Rule, rules}
-use Rattle.script.specs.declared.command.CardEntry.{CardEntry}
-use Rattle.script.specs.declared.command.CrashEntry.{CrashEntry}
 use Rattle.std.specs.Options.{isSome}
 use Rattle.std.specs.shelf.Lists.{All, kept-by}
 
@@ -95,12 +94,17 @@ Unended nothing = Unit {0}
 Unended (under-way l) = Unit {0}
 Unended (ended l) = ⊥
 
+-- no ring is described by commands that begin with those that stand and go on with this one
+abbrev pub Misplaced : Standing → Statement → Type 0
+Misplaced s c = (no-remark c ≡ true) × ((t : Standing) → commands-of t ≡ commands-of s ++ c ∷ [] → ⊥)
+
 -- what stands behind the commands before is refused with that fault
 pub data Breaks (s : Standing) (rest : List ℕ) : CommandFault → Type 0 where
   no-command : Unended s → Unknown rest → Breaks s rest (Reader NoCommand)
   incomplete : Unended s → Unfinished rest → Breaks s rest (Reader Incomplete)
-  breaks-rule : (fault : CommandFault) → Unended s → (c : Statement) (more : List ℕ) → Whole c → rest ≡ bytes-of c ++ more → FirstBroken (rules s c) fault
-      → Breaks s rest fault
+  misplaced : Unended s → (c : Statement) (more : List ℕ) → Whole c → rest ≡ bytes-of c ++ more → Misplaced s c → Breaks s rest NotAllowedHere
+  breaks-content : (fault : ContentFault) → Unended s → (c : Statement) (more : List ℕ) → Whole c → rest ≡ bytes-of c ++ more → FirstBroken (rules s c) (Content fault)
+      → Breaks s rest (Content fault)
   behind-end : (l : Listing) → s ≡ ended l → (b : ℕ) (more : List ℕ) → rest ≡ b ∷ more → Breaks s rest NotAllowedHere
 
 -- whole commands stand before the place, so many of them, in order and within content, and what comes then is refused

@@ -1,5 +1,5 @@
 -- What a load answers, and what it leaves behind.
-use Prim.Native.Nat.{ℕ, _+_, _≤_, _<_}
+use Prim.Native.Nat.{ℕ, _≤_, _<_}
 use lib.ListN.{length, getD, drop}
 use mathlib.Core.Bool.{false}
 use mathlib.Core.List.{List}
@@ -11,7 +11,7 @@ use Rattle.refusal.specs.declared.load.LoadFault.{LoadFault}
 use Rattle.script.specs.Admitted.{Admitted, Refused}
 use Rattle.script.specs.Fates.{fates}
 use Rattle.script.specs.Listing.{Listing, CardFor, has-crash}
-use Rattle.script.specs.Verdict.{Verdict, accepted, refused, verdict}
+use Rattle.script.specs.Verdict.{accepted, refused, verdict}
 use Rattle.script.specs.declared.loader.Loaded.{Loaded}
 use Rattle.script.specs.declared.scripted.Scripted.{Scripted}
 use Rattle.std.specs.shelf.Lists.{All}

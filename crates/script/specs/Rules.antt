@@ -39,14 +39,15 @@ in-range n f = leb 1 n && (leb n 16 && ltb f n)
 abbrev pub readable : CardEntry → Bool
 readable e = isSome (region-for (e .letter)) && leb (e .delay) 15
 
+-- a card's console, whether it has one already, and what the card says
 abbrev pub card-rules : Listing → CardEntry → List Rule
 card-rules l e =
-    misplaced-if (ltb 0 (length (l .crashes)))
-    ∷ refuses-if (leb (l .n) (e .console)) (ConsoleOutOfRange (e .console))
+    refuses-if (leb (l .n) (e .console)) (ConsoleOutOfRange (e .console))
     ∷ refuses-if (has-card (e .console) (l .cards)) (SecondCard (e .console))
     ∷ refuses-if (not (readable e)) (CardOutOfRange (e .console))
     ∷ []
 
+-- a crash's console, round and hearers, whether it is lost already, and how many are
 abbrev pub crash-rules : Listing → CrashEntry → List Rule
 crash-rules l e =
     refuses-if (leb (l .n) (e .console)) (ConsoleOutOfRange (e .console))
@@ -68,7 +69,7 @@ rules nothing (crash e) = misplaced-if true ∷ []
 rules nothing (remark text) = []
 rules nothing end = misplaced-if true ∷ []
 rules (under-way l) (link n f) = misplaced-if true ∷ []
-rules (under-way l) (card e) = card-rules l e
+rules (under-way l) (card e) = misplaced-if (ltb 0 (length (l .crashes))) ∷ card-rules l e
 rules (under-way l) (crash e) = crash-rules l e
 rules (under-way l) (remark text) = []
 rules (under-way l) end = missing-card (uncarded (l .n) (l .cards))

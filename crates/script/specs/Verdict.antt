@@ -1,5 +1,5 @@
 -- The verdict on a script: what it lists, or the one fault that it is refused with.
-use Prim.Native.Nat.{ℕ, zero, suc, _+_, _≤_, _<_}
+use Prim.Native.Nat.{ℕ, zero, suc, _+_}
 use lib.Dec.{leb}
 use lib.ListN.{length}
 use mathlib.Core.Bool.{cond}

@@ -1,7 +1,6 @@
-use mathlib.Core.Path.{_≡_, refl, sym, ap, subst, _∙_}
+use mathlib.Core.Path.{refl, _∙_}
 use native.Mathlib.Omega.{arith}
 use Rattle.std.proofs.shelf.Results.{err-from-errBy}
-use Rattle.script.specs.Loading.{Loads}
 use Rattle.script.proofs.Loads.{holds-legal, carrier-left, cards-left}
 use Rattle.script.proofs.Verdicts.{verdict-is-declared, one-verdict, too-long}
 use Rattle.script.proofs.loader.load.Needs as need

@@ -1,7 +1,7 @@
-use mathlib.Core.Path.{refl, sym, ap, subst, _∙_}
+use mathlib.Core.Path.{refl}
 use native.Mathlib.Omega.{arith}
 use Rattle.std.proofs.shelf.Results.{err-from-errBy}
-use Rattle.script.proofs.Loads.{OnWay, on-way-first, on-way-more, place-rises, stops-there, bytes-behind-end, read-to-end, differs, no-difference}
+use Rattle.script.proofs.Loads.{on-way-first, on-way-more, place-rises, stops-there, bytes-behind-end, read-to-end, differs, no-difference}
 use Rattle.script.proofs.loader.read_all.Needs as need
 
 pub loop-at-holds : need.loop-at-holds

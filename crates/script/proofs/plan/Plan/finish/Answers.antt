@@ -1,4 +1,4 @@
-use mathlib.Core.Path.{sym, ap, _∙_}
+use mathlib.Core.Path.{sym, ap}
 use Rattle.script.specs.Rules.{first-broken, missing-card}
 use Rattle.script.proofs.Plans.{end-taken}
 use Rattle.script.proofs.plan.Plan.finish.Needs as need
