@@ -4,7 +4,7 @@ use Prim.Native.Nat.{ℕ, zero, suc, _+_, _^_, _<_}
 use lib.Dec.{eqb, leb, ltb}
 use lib.ListN.{length, length-append}
 use lib.Pow.{pow-pos}
-use mathlib.Core.Bool.{true, cond, _&&_}
+use mathlib.Core.Bool.{true, false, cond, _&&_}
 use mathlib.Core.List.{List, [], _∷_}
 use mathlib.Core.Logic.{⊎-elim}
 use mathlib.Core.Path.{_≡_, refl, sym, ap, subst, _∙_}
@@ -15,15 +15,15 @@ use Rattle.carrier.specs.Sets.{Within, everybody}
 use Rattle.carrier.specs.Sizes.{InRange}
 use Rattle.script.specs.Admitted.{Sound, Complete}
 use Rattle.script.specs.Format.{Statement, link, card, crash, end}
-use Rattle.script.specs.Listing.{Listing, has-card, otherwise, uncarded, region-for}
+use Rattle.script.specs.Listing.{Listing, Lowest, UncardedIsLowest, has-card, otherwise, uncarded, region-for}
 use Rattle.script.specs.Rules.{Standing, nothing, under-way, in-range, rules, first-broken, with-card, with-crash, missing-card}
 use Rattle.script.specs.declared.command.CardEntry.{CardEntry}
 use Rattle.script.specs.declared.command.CrashEntry.{CrashEntry}
 use Rattle.script.proofs.Entries.{all-front, no-two-push, no-two-front, absent-others, others-absent, none-broken, all-kept}
 use Rattle.std.proofs.shelf.Bits.{and-mask, mod-below}
 use Rattle.std.proofs.shelf.Elements.{all-push}
-use Rattle.std.proofs.shelf.Tests.{cond-true, cond-false, cases-bool, cases-lt, both-ways, leb-true, leb-false, le-leb, lt-leb, ltb-true, ltb-false, lt-ltb, le-ltb, eqb-false, ne-eqb, not-false, not-from-true, and-parts, and-from, or-parts, or-from}
-use Rattle.std.specs.Options.{isSome}
+use Rattle.std.proofs.shelf.Tests.{cond-true, cond-false, cond-both, cases-bool, cases-lt, both-ways, leb-true, leb-false, le-leb, lt-leb, ltb-true, ltb-false, lt-ltb, le-ltb, eqb-false, ne-eqb, not-false, not-from-true, and-parts, and-from, or-parts, or-from}
+use Rattle.std.specs.Options.{isSome, valueOr}
 use Rattle.std.specs.declared.option.Option.{Option}
 use Rattle.std.specs.declared.option.Option.the-variants.{None, Some}
 
@@ -70,6 +70,47 @@ pub uncarded-none : (n : ℕ) (cards : List CardEntry) → ((c : ℕ) → c < n 
 uncarded-none zero cards h = refl
 uncarded-none (suc n) cards h =
     ap (λ o. otherwise o (cond (has-card n cards) None (Some n))) (uncarded-none n cards (λ c lt. h c (omega arith))) ∙ cond-true _ _ _ (h n (omega arith))
+
+-- the lowest console without a card
+after-first : (n : ℕ) (cards : List CardEntry) (k : ℕ) → k < n → uncarded (suc k) cards ≡ Some k → uncarded n cards ≡ Some k
+after-first zero cards k lt h = absurd (omega arith)
+after-first (suc n) cards k lt h =
+    ⊎-elim
+    (λ below. ap (λ o. otherwise o (cond (has-card n cards) None (Some n))) (after-first n cards k below h))
+    (λ at. let same : k ≡ n = omega arith in subst (λ m. uncarded (suc m) cards ≡ Some k) same h)
+    (cases-lt k n)
+
+pub uncarded-first : (n : ℕ) (cards : List CardEntry) (k : ℕ) → k < n → ((c : ℕ) → c < k → has-card c cards ≡ true) → has-card k cards ≡ false → uncarded n cards ≡ Some k
+uncarded-first n cards k lt below lacks =
+    after-first n cards k lt (ap (λ o. otherwise o (cond (has-card k cards) None (Some k))) (uncarded-none k cards below) ∙ cond-false _ _ _ lacks)
+
+lowest-more : (n : ℕ) (cards : List CardEntry) (o : Option ℕ) (c : ℕ) → uncarded n cards ≡ o → otherwise o (cond (has-card n cards) None (Some n)) ≡ Some c
+    → (uncarded n cards ≡ Some c → Lowest n cards c) → Lowest (suc n) cards c
+lowest-more n cards (Some m) c is h below =
+    let l = below (is ∙ h) in
+    record { below = omega (arith, l .below); lacks = l .lacks; lower-have = l .lower-have }
+lowest-more n cards None c is h below =
+    cond-both (has-card n cards) None (Some n) (λ o. o ≡ Some c → Lowest (suc n) cards c)
+    (λ has e. absurd (both-ways true (ap isSome (sym e)) refl))
+    (λ lacks e.
+    let same : n ≡ c = ap (λ o. valueOr o c) e in
+    record {
+      below = omega arith;
+      lacks = subst (λ k. has-card k cards ≡ false) same lacks;
+      lower-have = λ k lt. complete-below n cards is k (omega arith);
+    })
+    h
+
+lowest-since : (n : ℕ) (cards : List CardEntry) (c : ℕ) → uncarded n cards ≡ Some c → Lowest n cards c
+lowest-since zero cards c h = absurd (both-ways true (ap isSome (sym h)) refl)
+lowest-since (suc n) cards c h = lowest-more n cards (uncarded n cards) c refl h (lowest-since n cards c)
+
+pub uncarded-is-lowest : UncardedIsLowest
+uncarded-is-lowest = record {
+  is-lowest = lowest-since;
+  lowest-is = λ n cards c l. uncarded-first n cards c (l .below) (l .lower-have) (l .lacks);
+  none-lacks = complete-below;
+}
 
 pub complete-since : (l : Listing) → uncarded (l .n) (l .cards) ≡ None → Complete l
 complete-since l = complete-below (l .n) (l .cards)

@@ -1,9 +1,9 @@
 -- A plan that holds what stands goes on holding it with one command more.
-use Prim.Native.Nat.{ℕ, zero, suc, _+_, _^_, _≤_, _<_, min}
+use Prim.Native.Nat.{ℕ, _+_, _^_, _≤_, _<_, min}
 use lib.Dec.{eqb, leb, ltb}
 use lib.ListN.{length, getD, set, length-append, length-set}
 use lib.Seq.{getD-set-same, getD-set-other}
-use mathlib.Core.Bool.{Bool, true, false, cond, _||_}
+use mathlib.Core.Bool.{Bool, true, false, _||_}
 use mathlib.Core.List.{List, [], _∷_, _++_}
 use mathlib.Core.Logic.{⊎-elim}
 use mathlib.Core.Path.{_≡_, refl, sym, ap, subst, _∙_}
@@ -15,7 +15,7 @@ use Rattle.refusal.specs.declared.command.CommandFault.the-variants.{Content}
 use Rattle.refusal.specs.declared.content.ContentFault.the-variants.{HearersOutOfRange, SecondCrash, TooManyCrashes}
 use Rattle.script.specs.Fates.{no-loss, fate-of, fates}
 use Rattle.script.specs.Format.{card, crash, end}
-use Rattle.script.specs.Listing.{Listing, CardFor, card-for, has-card, has-crash, otherwise, uncarded, fate-of-entry, listed-fate}
+use Rattle.script.specs.Listing.{Listing, CardFor, card-for, crash-for, has-card, has-crash, fate-of-entry, listed-fate}
 use Rattle.script.specs.Plans.{phase-behind, Dealt, Holds, Takes}
 use Rattle.script.specs.Rules.{under-way, readable, rules, first-broken}
 use Rattle.script.specs.declared.command.CardEntry.{CardEntry}
@@ -23,10 +23,11 @@ use Rattle.script.specs.declared.command.CrashEntry.{CrashEntry}
 use Rattle.script.specs.declared.plan.Phase.the-variants.{Crashes, Ended}
 use Rattle.script.specs.declared.plan.Plan.{Plan}
 use Rattle.script.specs.declared.table.Loss.{Loss}
-use Rattle.script.proofs.Content.{Passes, hearers-below, below-hearers, card-next, crash-next, end-next, uncarded-none}
+use Rattle.script.proofs.Content.{Passes, hearers-below, below-hearers, card-next, crash-next, end-next}
 use Rattle.script.proofs.Entries.{absent-others, entry-kept, entry-new, none-broken, all-kept}
 use Rattle.std.proofs.shelf.Tests.{cond-true, cond-false, cases-lt, cases-eq, le-leb, lt-leb, leb-false, le-ltb, ne-eqb, or-from, not-from-true}
 use Rattle.std.specs.Options.{isSome}
+use Rattle.std.specs.Orderings.{Decides}
 use Rattle.std.specs.declared.option.Option.{Option}
 use Rattle.std.specs.declared.option.Option.the-variants.{None, Some}
 use Rattle.std.specs.declared.result.Result.the-variants.{Ok}
@@ -97,7 +98,7 @@ unfolding is-lost
 lost-by-list None = refl
 lost-by-list (Some e) = refl
 
-pub lost-listed : (loss : Loss) (o : Option CrashEntry) → fate-of loss ≡ fate-of-entry o → isSome (loss .round) ≡ isSome o
+lost-listed : (loss : Loss) (o : Option CrashEntry) → fate-of loss ≡ fate-of-entry o → isSome (loss .round) ≡ isSome o
 lost-listed loss o e = sym (lost-by-table (loss .round) (loss .hearers .bits)) ∙ ap is-lost e ∙ lost-by-list o
 
 -- one crash more
@@ -172,22 +173,15 @@ crash-taken p l e entries h passes is =
       },
     )
 
--- the lowest console without a card
-after-first : (n : ℕ) (cards : List CardEntry) (k : ℕ) → k < n → uncarded (suc k) cards ≡ Some k → uncarded n cards ≡ Some k
-after-first zero cards k lt h = absurd (omega arith)
-after-first (suc n) cards k lt h =
-    ⊎-elim
-    (λ below. ap (λ o. otherwise o (cond (has-card n cards) None (Some n))) (after-first n cards k below h))
-    (λ at. let same : k ≡ n = omega arith in subst (λ m. uncarded (suc m) cards ≡ Some k) same h)
-    (cases-lt k n)
+-- what the code's two tests on sets and entries decide
+pub hearers-decided : (m n bits all : ℕ) (r : Bool) → m ≡ n → n ≤ 16 → all ≡ everybody (min m 16) → Decides r (Within bits all) → Decides r (Within bits (everybody n))
+hearers-decided m n bits all r same few is decides =
+    let ring : all ≡ everybody n = is ∙ ap everybody (omega arith) in
+    subst (λ s. Decides r (Within bits s)) ring decides
 
-pub uncarded-first : (n : ℕ) (cards : List CardEntry) (k : ℕ) → k < n → ((c : ℕ) → c < k → has-card c cards ≡ true) → has-card k cards ≡ false → uncarded n cards ≡ Some k
-uncarded-first n cards k lt below lacks =
-    after-first n cards k lt (ap (λ o. otherwise o (cond (has-card k cards) None (Some k))) (uncarded-none k cards below) ∙ cond-false _ _ _ lacks)
-
--- all of a ring, as a set
-pub ring-is : (m n bits : ℕ) → m ≡ n → n ≤ 16 → bits ≡ everybody (min m 16) → bits ≡ everybody n
-ring-is m n bits same few is = is ∙ ap everybody (omega arith)
+pub crash-listed : (p : Plan) (l : Listing) (console : ℕ) (entry : Loss) (r : Bool) → Holds p (under-way l) → entry ≡ getD (p .table .entries) console no-loss → r ≡ isSome (entry .round)
+    → has-crash console (l .crashes) ≡ r
+crash-listed p l console entry r h is decides = sym (decides ∙ lost-listed entry (crash-for console (l .crashes)) (ap fate-of is ∙ h .fate console))
 
 -- a plan whose last command is END
 pub end-taken : (p : Plan) (l : Listing) → Holds p (under-way l) → Passes (under-way l) end

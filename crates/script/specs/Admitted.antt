@@ -43,6 +43,7 @@ Complete l = (c : ℕ) → c < l .n → has-card c (l .cards) ≡ true
 abbrev pub ring-commands : Listing → List Statement
 ring-commands l = link (l .n) (l .f) ∷ map card (l .cards) ++ map crash (l .crashes)
 
+-- the commands that stand, without remarks
 abbrev pub commands-of : Standing → List Statement
 commands-of nothing = []
 commands-of (under-way l) = ring-commands l
@@ -55,6 +56,7 @@ no-remark (crash e) = true
 no-remark (remark text) = false
 no-remark end = true
 
+-- what stands keeps the rules of content, and behind END every console has a card
 abbrev pub WithinContent : Standing → Type 0
 WithinContent nothing = Unit {0}
 WithinContent (under-way l) = Sound l
@@ -119,6 +121,7 @@ pub record StoppedAt (script : List ℕ) (stopped : Stopped) : Type 0 where
   pub counted : stopped .count ≡ length before
   pub short : length script ≤ 4096
 
+-- the one refusal of a script that is not admitted; a short list is no fault of the script's
 abbrev pub Refused : List ℕ → LoadFault → Type 0
 Refused script LoadFault.TooLong = 4096 < length script
 Refused script (LoadFault.Command stopped) = StoppedAt script stopped

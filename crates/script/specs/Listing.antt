@@ -1,7 +1,7 @@
 -- What a script lists: the sizes of the ring, its cards and its crashes.
-use Prim.Native.Nat.{ℕ, zero, suc}
+use Prim.Native.Nat.{ℕ, zero, suc, _<_}
 use lib.Dec.{eqb}
-use mathlib.Core.Bool.{Bool, cond, _||_}
+use mathlib.Core.Bool.{Bool, true, false, cond, _||_}
 use mathlib.Core.List.{List, [], _∷_}
 use mathlib.Core.Path.{_≡_}
 use Rattle.carrier.specs.Losses.{Fate, stays, lost}
@@ -39,14 +39,26 @@ has-card c cards = isSome (card-for c cards)
 abbrev pub has-crash : ℕ → List CrashEntry → Bool
 has-crash c crashes = isSome (crash-for c crashes)
 
--- the lowest console below n that has no card
+-- the first of two that is there
 abbrev pub otherwise : Option ℕ → Option ℕ → Option ℕ
 otherwise (Some c) later = Some c
 otherwise None later = later
 
+-- the lowest console below n that has no card, if one has none
 abbrev pub uncarded : ℕ → List CardEntry → Option ℕ
 uncarded zero cards = None
 uncarded (suc c) cards = otherwise (uncarded c cards) (cond (has-card c cards) None (Some c))
+
+pub record Lowest (n : ℕ) (cards : List CardEntry) (c : ℕ) : Type 0 where
+  pub below : c < n
+  pub lacks : has-card c cards ≡ false
+  pub lower-have : (k : ℕ) → k < c → has-card k cards ≡ true
+
+-- it is the lowest, and there is none exactly where every console has a card
+pub record UncardedIsLowest : Type 0 where
+  pub is-lowest : (n : ℕ) (cards : List CardEntry) (c : ℕ) → uncarded n cards ≡ Some c → Lowest n cards c
+  pub lowest-is : (n : ℕ) (cards : List CardEntry) (c : ℕ) → Lowest n cards c → uncarded n cards ≡ Some c
+  pub none-lacks : (n : ℕ) (cards : List CardEntry) → uncarded n cards ≡ None → (c : ℕ) → c < n → has-card c cards ≡ true
 
 -- E is 50, J and U are 60, a space is unmarked, and there is no other letter
 abbrev pub region-for : ℕ → Option Region

@@ -39,6 +39,7 @@ abbrev pub CardRead : CardEntry → Result StartCard ContentFault → Type 0
 CardRead e (Ok card) = CardFor e card × (readable e ≡ true)
 CardRead e (Err fault) = (readable e ≡ false) × (fault ≡ CardOutOfRange (e .console))
 
+-- what is listed, and what may come next
 abbrev pub cards-of : Standing → List CardEntry
 cards-of nothing = []
 cards-of (under-way l) = l .cards
@@ -65,6 +66,7 @@ Dealt None (Some e) = ⊥
 Dealt (Some card) None = ⊥
 Dealt (Some card) (Some e) = CardFor e card
 
+-- the sizes are LINK's
 abbrev pub SizedAs : Plan → Standing → Type 0
 SizedAs p nothing = Unit {0}
 SizedAs p (under-way l) = (p .sizes .n ≡ l .n) × (p .sizes .f ≡ l .f)

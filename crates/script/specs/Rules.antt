@@ -27,15 +27,18 @@ pub record Rule : Type 0 where
   pub broken : Bool
   pub fault : CommandFault
 
+-- a rule of content, and one of order
 abbrev pub refuses-if : Bool → ContentFault → Rule
 refuses-if broken fault = record { broken = broken; fault = Content fault }
 
 abbrev pub misplaced-if : Bool → Rule
 misplaced-if broken = record { broken = broken; fault = NotAllowedHere }
 
+-- 1 to 16 consoles, and fewer losses
 abbrev pub in-range : ℕ → ℕ → Bool
 in-range n f = leb 1 n && (leb n 16 && ltb f n)
 
+-- the letter is a region's, and the delay is 15 at most
 abbrev pub readable : CardEntry → Bool
 readable e = isSome (region-for (e .letter)) && leb (e .delay) 15
 
@@ -57,6 +60,7 @@ crash-rules l e =
     ∷ refuses-if (leb (l .f) (length (l .crashes))) (TooManyCrashes (e .console) (e .round))
     ∷ []
 
+-- END asks for every console's card
 abbrev pub missing-card : Option ℕ → List Rule
 missing-card None = []
 missing-card (Some c) = refuses-if true (CardMissing c) ∷ []
@@ -80,6 +84,7 @@ abbrev pub first-broken : List Rule → Option CommandFault
 first-broken [] = None
 first-broken (r ∷ more) = cond (r .broken) (Some (r .fault)) (first-broken more)
 
+-- a listing with one entry more
 abbrev pub with-card : Listing → CardEntry → Listing
 with-card l e = record { n = l .n; f = l .f; cards = l .cards ++ e ∷ []; crashes = l .crashes }
 

@@ -11,16 +11,18 @@ use Rattle.refusal.specs.declared.load.LoadFault.{LoadFault}
 use Rattle.refusal.specs.declared.reader.ReaderFault.the-variants.{Incomplete}
 use Rattle.script.specs.Admitted.{Admitted, Refused}
 use Rattle.script.specs.Format.{Statement, bytes-of, Bytes}
-use Rattle.script.specs.Listing.{Listing}
+use Rattle.script.specs.Listing.{Listing, UncardedIsLowest}
 use Rattle.script.specs.Reading.{Reading, found, stopped, read-first}
 use Rattle.script.specs.Rules.{Standing, nothing, under-way, ended, rules, first-broken, advance}
 use Rattle.std.specs.declared.option.Option.{Option}
 use Rattle.std.specs.declared.option.Option.the-variants.{None, Some}
 
+-- what is listed and how many commands there are, or a fault
 pub data Verdict : Type 0 where
   accepted : Listing → (count : ℕ) → Verdict
   refused : LoadFault → Verdict
 
+-- a fault of the command at a place, behind so many others
 abbrev pub refused-at : ℕ → ℕ → CommandFault → Verdict
 refused-at place count fault = refused (LoadFault.Command (record { fault = fault; place = place; count = count }))
 
@@ -46,6 +48,7 @@ abbrev pub after-end : Listing → (place count : ℕ) → List ℕ → Verdict
 after-end l place count [] = accepted l count
 after-end l place count (b ∷ more) = refused-at place count NotAllowedHere
 
+-- what is described, where END stood
 abbrev pub ending : Standing → Option Listing
 ending nothing = None
 ending (under-way l) = None
@@ -63,6 +66,7 @@ walk (suc k) s place count bytes =
       ]
     ]
 
+-- at most 4,096 bytes, from the first command on
 unfoldable pub verdict : List ℕ → Verdict
 verdict script = cond (leb (length script) 4096) (walk (suc (length script)) nothing 0 0 script) (refused LoadFault.TooLong)
 
@@ -78,3 +82,9 @@ VerdictIsDeclared = (script : List ℕ) → Bytes script → (v : Verdict) → (
 -- every byte string has one verdict, and no other
 abbrev pub OneVerdict : Type 0
 OneVerdict = (script : List ℕ) → Bytes script → (v : Verdict) × Declared script v × ((w : Verdict) → Declared script w → w ≡ v)
+
+-- what is promised of the verdicts on all scripts
+pub record JudgedAsDeclared : Type 0 where
+  pub as-declared : VerdictIsDeclared
+  pub exactly-one : OneVerdict
+  pub lowest-named : UncardedIsLowest

@@ -2,7 +2,7 @@
 ghost use Rattle.script.specs.Loading.{Loads};
 ghost use Rattle.script.specs.Plans.{Holds, Judges, Steps, ReadsAll, Filled};
 ghost use Rattle.script.specs.Rules.{Standing};
-ghost use Rattle.script.specs.Verdict.{VerdictIsDeclared, OneVerdict};
+ghost use Rattle.script.specs.Verdict.{JudgedAsDeclared};
 ghost use Prim.Native.Nat.{_≤_, _<_};
 ghost use lib.ListN.{length};
 ghost use Rattle.std.specs.declared.result.Result.the-variants.{Ok, Err};
@@ -115,8 +115,7 @@ fn deal_out(dealt: &[Option<Card>; 16], n: u8, cards: &mut [Card])
 // Fills the carrier and the first n cards from a script, or refuses and leaves both as they were.
 pub fn load(script: &[u8], carrier: &mut Scripted, cards: &mut [Card]) -> Result<Loaded, LoadFault>
     ensures loads { λ r. ⌜ Loads (now (script .entry)) (now (carrier .entry)) (now (cards .entry)) r (now (carrier .exit)) (now (cards .exit)) ⌝ }
-    ensures declared { λ _. ⌜ VerdictIsDeclared ⌝ }
-    ensures one_verdict { λ _. ⌜ OneVerdict ⌝ }
+    ensures verdicts { λ _. ⌜ JudgedAsDeclared ⌝ }
 {
     if script.len() > LONGEST {
         return Err(LoadFault::TooLong);

@@ -2,14 +2,13 @@ use mathlib.Core.Path.{refl, _∙_}
 use native.Mathlib.Omega.{arith}
 use Rattle.std.proofs.shelf.Results.{err-from-errBy}
 use Rattle.script.proofs.Loads.{holds-legal, carrier-left, cards-left}
-use Rattle.script.proofs.Verdicts.{verdict-is-declared, one-verdict, too-long}
+use Rattle.script.proofs.Verdicts.{verdict-is-declared, judged-as-declared, too-long}
 use Rattle.script.proofs.loader.load.Needs as need
 
 pub returns-then-script-gt-LONGEST : need.returns-then-script-gt-LONGEST
 returns-then-script-gt-LONGEST c = record {
   loads = ((too-long (c .args .script .now) (omega arith), omega arith), refl, refl);
-  declared = verdict-is-declared;
-  one-verdict = one-verdict;
+  verdicts = judged-as-declared;
 }
 
 pub returns-in-Break-read : need.returns-in-Break-read
@@ -18,8 +17,7 @@ returns-in-Break-read c =
     let judged = c .in-Break-read .ensures tt in
     record {
       loads = rw (p .1, p .2) ((judged, verdict-is-declared (c .args .script .now) (λ i. omega (arith, c .typed .script i)) _ .0 judged), refl, refl);
-      declared = verdict-is-declared;
-      one-verdict = one-verdict;
+      verdicts = judged-as-declared;
     }
 
 pub returns-in-Break-long-enough : need.returns-in-Break-long-enough
@@ -38,8 +36,7 @@ returns-in-Break-long-enough c =
         refl,
         refl,
       );
-      declared = verdict-is-declared;
-      one-verdict = one-verdict;
+      verdicts = judged-as-declared;
     }
 
 pub ghost-carrier : need.ghost-carrier
@@ -57,6 +54,5 @@ returns c = record {
     carrier-left = carrier-left _ (k .listing) _ (k .holds) refl refl;
     cards-left = cards-left _ (k .listing) (c .consoles .result) _ _ (k .holds) (c .consoles .ensures ∙ k .holds .sizes .0) (c .deal-out .kept .cards) (c .deal-out .ensures);
   };
-  declared = verdict-is-declared;
-  one-verdict = one-verdict;
+  verdicts = judged-as-declared;
 }

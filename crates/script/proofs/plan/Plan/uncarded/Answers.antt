@@ -1,7 +1,7 @@
 use mathlib.Core.Path.{sym, ap, _∙_}
 use native.Mathlib.Omega.{arith}
-use Rattle.script.proofs.Content.{uncarded-none}
-use Rattle.script.proofs.Plans.{dealt-listed, uncarded-first}
+use Rattle.script.proofs.Content.{uncarded-first, uncarded-none}
+use Rattle.script.proofs.Plans.{dealt-listed}
 use mathlib.Core.Bool.{not}
 use Rattle.script.proofs.plan.Plan.uncarded.Needs as need
 
