@@ -300,14 +300,17 @@ cards-left p l n before after h is long filled =
       long = long;
     }
 
--- what a test for a difference tells
-pub differs : (A B : Type 0) (x : Bool) → cond x A B → true ≡ not x → B
-differs A B true h e = absurd (both-ways true e refl)
-differs A B false h e = h
+-- what the test for the last phase tells, as the code makes it
+abbrev DiffersBy : Phase → Bool → Type 0
+DiffersBy phase r = (x : Bool) × cond x (phase ≡ Ended) (phase ≡ Ended → ⊥) × (r ≡ not x)
 
-pub no-difference : (A B : Type 0) (x : Bool) → cond x A B → false ≡ not x → A
-no-difference A B true h e = h
-no-difference A B false h e = absurd (both-ways true (sym e) refl)
+pub still-open : (phase : Phase) → DiffersBy phase true → phase ≡ Ended → ⊥
+still-open phase (true, h, e) = absurd (both-ways true e refl)
+still-open phase (false, h, e) = h
+
+pub at-end : (phase : Phase) → DiffersBy phase false → phase ≡ Ended
+at-end phase (true, h, e) = h
+at-end phase (false, h, e) = absurd (both-ways true (sym e) refl)
 
 pub none-if-not-some : {A : Type 0} (o : Option A) → ((x : A) → o ≡ Some x → ⊥) → o ≡ None
 none-if-not-some None h = refl

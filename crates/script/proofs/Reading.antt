@@ -266,9 +266,6 @@ said-no-remark (Crash e) text no-r = no-remark _ text refl
 said-no-remark (Remark r) text no-r = λ e. no-r r refl
 said-no-remark End text no-r = no-remark _ text refl
 
-pub read-back-anywhere : ReadBack
-read-back-anywhere c w before after = ap read-first (drop-append-seam before (bytes-of c ++ after)) ∙ read-back c w after
-
 -- what the reader answers where the first command of the bytes is refused
 pub refused-there : (script : List ℕ) (place : ℕ) (e : ReaderFault) → read-first (drop place script) ≡ stopped e → ReadAt script place (Err e)
 refused-there script place NoCommand is = (is, unknown-since (drop place script) is)
@@ -277,3 +274,11 @@ refused-there script place Incomplete is = (is, unfinished-since (drop place scr
 pub refused-reading : (script : List ℕ) (place : ℕ) (e : ReaderFault) → ReadAt script place (Err e) → read-first (drop place script) ≡ stopped e
 refused-reading script place NoCommand at = at .0
 refused-reading script place Incomplete at = at .0
+
+read-anywhere : (c : Statement) → Whole c → (before after : List ℕ) → read-first (drop (length before) (before ++ (bytes-of c ++ after))) ≡ found c after
+read-anywhere c w before after = ap read-first (drop-append-seam before (bytes-of c ++ after)) ∙ read-back c w after
+
+pub read-back-anywhere : ReadBack
+unfolding statement-of
+read-back-anywhere c w before after (Ok r) at = ap statement-of (sym (at .read) ∙ read-anywhere c w before after)
+read-back-anywhere c w before after (Err e) at = not-both _ e c after (refused-reading (before ++ (bytes-of c ++ after)) (length before) e at) (read-anywhere c w before after)

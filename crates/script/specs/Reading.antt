@@ -76,9 +76,14 @@ ReadAt script place (Ok r) = StandsAt script place r
 ReadAt script place (Err NoCommand) = (read-first (drop place script) ≡ stopped NoCommand) × Unknown (drop place script)
 ReadAt script place (Err Incomplete) = (read-first (drop place script) ≡ stopped Incomplete) × Unfinished (drop place script)
 
+-- the answer is that command
+abbrev pub ReadsAs : Statement → Result Found ReaderFault → Type 0
+ReadsAs c (Ok r) = said (r .command) ≡ c
+ReadsAs c (Err e) = ⊥
+
 -- every command's bytes are read back as that command, wherever they stand
 abbrev pub ReadBack : Type 0
-ReadBack = (c : Statement) → Whole c → (before after : List ℕ) → read-first (drop (length before) (before ++ (bytes-of c ++ after))) ≡ found c after
+ReadBack = (c : Statement) → Whole c → (before after : List ℕ) (r : Result Found ReaderFault) → ReadAt (before ++ (bytes-of c ++ after)) (length before) r → ReadsAs c r
 
 abbrev pub NoRemark : Result Found ReaderFault → Type 0
 NoRemark (Ok r) = (text : List ℕ) → said (r .command) ≡ remark text → ⊥

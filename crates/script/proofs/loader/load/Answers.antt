@@ -52,7 +52,7 @@ returns c = record {
     n-is = k .holds .sizes .0;
     f-is = k .holds .sizes .1;
     carrier-left = carrier-left _ (k .listing) _ (k .holds) refl refl;
-    cards-left = cards-left _ (k .listing) (c .consoles .result) _ _ (k .holds) (c .consoles .ensures ∙ k .holds .sizes .0) (c .deal-out .kept .cards) (c .deal-out .ensures);
+    cards-left = cards-left _ (k .listing) (c .consoles .result) (c .args .cards .now) (c .deal-out .last .cards) (k .holds) (c .consoles .ensures ∙ k .holds .sizes .0) (c .deal-out .kept .cards) (c .deal-out .ensures);
   };
   verdicts = judged-as-declared;
 }
