@@ -13,7 +13,7 @@ use Rattle.carrier.proofs.Digits.{bit-above}
 use Rattle.carrier.proofs.Sets.{everybody-members, within-and}
 use Rattle.carrier.specs.Sets.{Within, everybody}
 use Rattle.carrier.specs.Sizes.{InRange}
-use Rattle.script.specs.Admitted.{Sound, Complete}
+use Rattle.script.specs.Admitted.{Sound, Complete, TestsMean}
 use Rattle.script.specs.Format.{Statement, link, card, crash, end}
 use Rattle.script.specs.Listing.{Listing, Lowest, UncardedIsLowest, has-card, otherwise, uncarded, region-for}
 use Rattle.script.specs.Rules.{Standing, nothing, under-way, in-range, rules, first-broken, with-card, with-crash, missing-card}
@@ -22,7 +22,7 @@ use Rattle.script.specs.declared.command.CrashEntry.{CrashEntry}
 use Rattle.script.proofs.Entries.{all-front, no-two-push, no-two-front, absent-others, others-absent, none-broken, all-kept}
 use Rattle.std.proofs.shelf.Bits.{and-mask, mod-below}
 use Rattle.std.proofs.shelf.Elements.{all-push}
-use Rattle.std.proofs.shelf.Tests.{cond-true, cond-false, cond-both, cases-bool, cases-lt, both-ways, leb-true, leb-false, le-leb, lt-leb, ltb-true, ltb-false, lt-ltb, le-ltb, eqb-false, ne-eqb, not-false, not-from-true, and-parts, and-from, or-parts, or-from}
+use Rattle.std.proofs.shelf.Tests.{cond-true, cond-false, cond-both, cases-bool, cases-lt, both-ways, leb-true, leb-false, le-leb, lt-leb, ltb-true, ltb-false, lt-ltb, le-ltb, eqb-false, ne-eqb, not-true, not-false, not-from-true, not-from-false, and-parts, and-from, or-parts, or-from}
 use Rattle.std.specs.Options.{isSome, valueOr}
 use Rattle.std.specs.declared.option.Option.{Option}
 use Rattle.std.specs.declared.option.Option.the-variants.{None, Some}
@@ -245,3 +245,26 @@ end-next l p = complete-since l (go (uncarded (l .n) (l .cards)) p)
 
 pub end-last : (l : Listing) → Complete l → Passes (under-way l) end
 end-last l h = ap (λ o. first-broken (missing-card o)) (uncarded-none (l .n) (l .cards) h)
+
+-- what the tests of the rules amount to
+pub tests-mean : TestsMean
+tests-mean = record {
+  sizes = λ n f. (in-range-true n f, true-in-range n f);
+  no-card = λ c cards. ((λ h. absent-others _ c cards (not-true _ h)), (λ others. not-from-false _ (ap isSome (others-absent _ c cards others))));
+  no-crash = λ c crashes. ((λ h. absent-others _ c crashes (not-true _ h)), (λ others. not-from-false _ (ap isSome (others-absent _ c crashes others))));
+  card-readable = λ e. (
+    (λ h. let (letter, delay) = and-parts (isSome (region-for (e .letter))) (leb (e .delay) 15) h in (letter, leb-true (e .delay) 15 delay)),
+    (λ h. and-from _ _ (h .0) (le-leb (e .delay) 15 (h .1))),
+  );
+  round-in-time = λ f round. (
+    (λ h.
+        let (first, last) = or-parts (eqb round 0) (ltb (f + 1) round) (not-true _ h) in
+        let some = eqb-false round 0 first in
+        (omega arith, ltb-false (f + 1) round last)),
+    (λ h. not-from-false _ (or-from _ _ (ne-eqb round 0 (λ z. omega (arith, h .0))) (le-ltb (f + 1) round (h .1)))),
+  );
+  hearers-in-ring = λ n hearers. (
+    (λ h. hearers-below n hearers (leb-false (2 ^ n) hearers (not-true _ h))),
+    (λ w. not-from-false _ (lt-leb (2 ^ n) hearers (below-hearers n hearers w))),
+  );
+}

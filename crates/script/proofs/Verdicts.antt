@@ -17,7 +17,7 @@ use Rattle.script.specs.Listing.{Listing}
 use Rattle.script.specs.Reading.{Reading, found, stopped, read-first}
 use Rattle.script.specs.Rules.{Standing, nothing, under-way, ended, rules, first-broken, advance}
 use Rattle.script.specs.Verdict.{Verdict, accepted, refused, refused-at, Judged, stops, goes, judge-command, judge-reading, judge, after-end, walk, verdict, Declared, VerdictIsDeclared, OneVerdict, JudgedAsDeclared}
-use Rattle.script.proofs.Content.{Passes, uncarded-is-lowest}
+use Rattle.script.proofs.Content.{Passes, uncarded-is-lowest, tests-mean}
 use Rattle.script.proofs.Entries.{last-view, broken-first, first-is-broken}
 use Rattle.script.proofs.Order.{says-more, says-less}
 use Rattle.script.proofs.Places.{by-place}
@@ -324,4 +324,4 @@ one-verdict : OneVerdict
 one-verdict script byte = (verdict script, verdict-declared script byte, λ w h. sym (declared-verdict script w h))
 
 pub judged-as-declared : JudgedAsDeclared
-judged-as-declared = record { as-declared = verdict-is-declared; exactly-one = one-verdict; lowest-named = uncarded-is-lowest }
+judged-as-declared = record { as-declared = verdict-is-declared; exactly-one = one-verdict; lowest-named = uncarded-is-lowest; tests-mean = tests-mean }

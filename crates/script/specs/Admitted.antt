@@ -1,7 +1,8 @@
 -- Which scripts are admitted, and where and why any other is refused, declared over the list of its commands.
-use Prim.Native.Nat.{ℕ, _+_, _≤_, _<_}
+use Prim.Native.Nat.{ℕ, _+_, _^_, _≤_, _<_}
+use lib.Dec.{eqb, leb, ltb}
 use lib.ListN.{length}
-use mathlib.Core.Bool.{Bool, true, false}
+use mathlib.Core.Bool.{Bool, true, false, not, _||_}
 use mathlib.Core.List.{List, [], _∷_, _++_, map}
 use mathlib.Core.Path.{_≡_}
 use Rattle.carrier.specs.Sets.{Within, everybody}
@@ -13,9 +14,12 @@ use Rattle.refusal.specs.declared.load.LoadFault.{LoadFault}
 use Rattle.refusal.specs.declared.load.Stopped.{Stopped}
 use Rattle.refusal.specs.declared.reader.ReaderFault.the-variants.{NoCommand, Incomplete}
 use Rattle.script.specs.Format.{Statement, link, card, crash, remark, end, bytes-of, Whole, script-of, Unknown, Unfinished}
-use Rattle.script.specs.Listing.{Listing, has-card, region-for}
-use Rattle.script.specs.Rules.{Standing, nothing, under-way, ended, Rule, rules}
+use Rattle.script.specs.Listing.{Listing, has-card, has-crash, region-for}
+use Rattle.script.specs.Rules.{Standing, nothing, under-way, ended, Rule, in-range, readable, rules}
+use Rattle.script.specs.declared.command.CardEntry.{CardEntry}
+use Rattle.script.specs.declared.command.CrashEntry.{CrashEntry}
 use Rattle.std.specs.Options.{isSome}
+use Rattle.std.specs.Orderings.{Decides}
 use Rattle.std.specs.shelf.Lists.{All, kept-by}
 
 -- no two elements have the same key
@@ -89,6 +93,15 @@ pub record FirstBroken (judged : List Rule) (fault : CommandFault) : Type 0 wher
   pub later : List Rule
   pub stands : judged ≡ earlier ++ record { broken = true; fault = fault } ∷ later
   pub kept : All (λ r. r .broken ≡ false) earlier
+
+-- what the tests of the rules amount to; those that are not here compare two numbers
+pub record TestsMean : Type 0 where
+  pub sizes : (n f : ℕ) → Decides (in-range n f) (InRange n f)
+  pub no-card : (c : ℕ) (cards : List CardEntry) → Decides (not (has-card c cards)) (All (λ e. e .console ≡ c → ⊥) cards)
+  pub no-crash : (c : ℕ) (crashes : List CrashEntry) → Decides (not (has-crash c crashes)) (All (λ e. e .console ≡ c → ⊥) crashes)
+  pub card-readable : (e : CardEntry) → Decides (readable e) ((isSome (region-for (e .letter)) ≡ true) × (e .delay ≤ 15))
+  pub round-in-time : (f round : ℕ) → Decides (not (eqb round 0 || ltb (f + 1) round)) ((1 ≤ round) × (round ≤ f + 1))
+  pub hearers-in-ring : (n hearers : ℕ) → Decides (not (leb (2 ^ n) hearers)) (Within hearers (everybody n))
 
 -- END is still to come
 abbrev pub Unended : Standing → Type 0

@@ -9,7 +9,7 @@ use Rattle.refusal.specs.declared.command.CommandFault.{CommandFault}
 use Rattle.refusal.specs.declared.command.CommandFault.the-variants.{Reader, NotAllowedHere}
 use Rattle.refusal.specs.declared.load.LoadFault.{LoadFault}
 use Rattle.refusal.specs.declared.reader.ReaderFault.the-variants.{Incomplete}
-use Rattle.script.specs.Admitted.{Admitted, Refused}
+use Rattle.script.specs.Admitted.{Admitted, TestsMean, Refused}
 use Rattle.script.specs.Format.{Statement, bytes-of, Bytes}
 use Rattle.script.specs.Listing.{Listing, UncardedIsLowest}
 use Rattle.script.specs.Reading.{Reading, found, stopped, read-first}
@@ -88,3 +88,4 @@ pub record JudgedAsDeclared : Type 0 where
   pub as-declared : VerdictIsDeclared
   pub exactly-one : OneVerdict
   pub lowest-named : UncardedIsLowest
+  pub tests-mean : TestsMean
