@@ -1,4 +1,6 @@
 // Carriers decide who of a ring is lost and who hears whom.
+#![tactic(auto)]
+
 mod pattern;
 mod quiet;
 mod set;

@@ -1,4 +1,6 @@
 // Joins the start cards of a ring of three in two orders, and prints who is lost and heard when on a staggered ring.
+#![tactic(auto)]
+
 use carrier::{Carrier, ConsoleSet, Staggered};
 use joining::{Card, Delay, Joining, Modes, Region, Seed};
 use shown::{ShownCard, ShownSet};

@@ -1,5 +1,7 @@
 // The theory of the start: flooding over any failure pattern, and joins over any set of consoles. Each function here
 // carries a theorem: it computes nothing, and its contract is the statement, which the check proves.
+#![tactic(auto)]
+
 mod heard;
 mod legal;
 mod post;

@@ -1,4 +1,6 @@
 // Reads a fault script from standard input, and prints in words what it describes, or the line of its refusal.
+#![tactic(auto)]
+
 mod described;
 
 use joining::{Card, Delay, Modes, Region, Seed};

@@ -1,4 +1,6 @@
 // Joinings: kinds of proposal that can be joined in any order, with any grouping and any repetition.
+#![tactic(auto)]
+
 mod both;
 mod card;
 mod delay;

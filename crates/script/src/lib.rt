@@ -1,4 +1,6 @@
 // Fault scripts: the commands of a script, the carrier that a script describes, and the loader.
+#![tactic(auto)]
+
 mod admit;
 mod command;
 mod dealing;

@@ -1,4 +1,6 @@
 // Start cards and sets of consoles as people read them.
+#![tactic(auto)]
+
 use carrier::ConsoleSet;
 use joining::{Card, Region};
 use std::fmt;
