@@ -7,4 +7,4 @@ pub returns : goal.returns
 returns c =
     let n = c.args.sizes.n in
     let least : min c.consoles.result 16 ≡ n = omega arith in
-    c.all-of.ensures.number ∙ ap everybody least ∙ quiet_up n
+    c.all_of.ensures.number ∙ ap everybody least ∙ quiet_up n

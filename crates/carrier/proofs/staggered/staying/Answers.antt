@@ -5,6 +5,6 @@ use Rattle.carrier.proofs.staggered.staying.Goals as goal
 
 pub returns : goal.returns
 returns c =
-    staggered_up c.args.n c.args.f c.args.round _ _ _ c.requires c.all-of.ensures.members
-    (subst (λ (m : ℕ). Members c.all-of-2.result.bits (λ k. (k < m) × (k < 16))) c.min-gone.ensures c.all-of-2.ensures.members)
+    staggered_up c.args.n c.args.f c.args.round _ _ _ c.requires c.all_of.ensures.members
+    (subst (λ (m : ℕ). Members c.all_of-2.result.bits (λ k. (k < m) × (k < 16))) c.min-gone.ensures c.all_of-2.ensures.members)
     c.difference.ensures.members

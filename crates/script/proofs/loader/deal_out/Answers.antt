@@ -7,5 +7,5 @@ use Rattle.script.proofs.loader.deal_out.Goals.{in-Some, in-default}
 pub loop-console-preserved : goal.loop-console-preserved
 loop-console-preserved c = elim c.match-dealt-console.branch [
   | in-Some w ↦ subst (Filled _ _ _) (sym w.cards-is) (filled_some _ _ _ _ _ c.loop-console.invariant (omega arith) w.in-Some.is)
-  | in-default w ↦ subst (Filled _ _ _) (sym w.cards-is) (filled_none _ _ _ _ c.loop-console.invariant (none_if_not_some _ w.in-default.not-Some))
+  | in-default w ↦ subst (Filled _ _ _) (sym w.cards-is) (filled_none _ _ _ _ c.loop-console.invariant (none_if_not_some _ w.in_default.not-Some))
 ]

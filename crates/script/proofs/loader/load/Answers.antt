@@ -10,27 +10,27 @@ returns-then-script-gt-LONGEST c = record {
   verdicts = judged_as_declared;
 }
 
-pub returns-in-err-read : goal.returns-in-err-read
-returns-in-err-read c =
-    let p = err_from_is_err_and c.from-residual.result c.from-residual.ensures.1 in
-    let judged = c.in-err-read.ensures in
+pub returns-in_err-read : goal.returns-in_err-read
+returns-in_err-read c =
+    let p = err_from_is_err_and c.from_residual.result c.from_residual.ensures.1 in
+    let judged = c.in_err-read.ensures in
     record {
-      loads = rw (p.1, p.2) ((judged, (verdict_is_declared c.args.script.now (λ i. omega (arith, c.type-inv.script i)) _).0 judged), refl, refl);
+      loads = rw (p.1, p.2) ((judged, (verdict_is_declared c.args.script.now (λ i. omega (arith, c.type_inv.script i)) _).0 judged), refl, refl);
       verdicts = judged_as_declared;
     }
 
-pub returns-in-err-long-enough : goal.returns-in-err-long-enough
-returns-in-err-long-enough c =
-    let p = err_from_is_err_and c.from-residual-in-err-long-enough.result c.from-residual-in-err-long-enough.ensures.1 in
-    let k = c.in-ok-read.ensures in
+pub returns-in_err-long_enough : goal.returns-in_err-long_enough
+returns-in_err-long_enough c =
+    let p = err_from_is_err_and c.from_residual-in_err-long_enough.result c.from_residual-in_err-long_enough.ensures.1 in
+    let k = c.in_ok-read.ensures in
     record {
       loads = rw (p.1, p.2) (
         record {
           listing = k.listing;
           count = _;
           judged = k.judged;
-          admitted = (verdict_is_declared c.args.script.now (λ i. omega (arith, c.type-inv.script i)) _).0 k.judged;
-          short = omega (arith, k.holds.sizes.0, c.in-err-long-enough.ensures);
+          admitted = (verdict_is_declared c.args.script.now (λ i. omega (arith, c.type_inv.script i)) _).0 k.judged;
+          short = omega (arith, k.holds.sizes.0, c.in_err-long_enough.ensures);
         },
         refl,
         refl,
@@ -39,19 +39,19 @@ returns-in-err-long-enough c =
     }
 
 pub invariant-of-carrier : goal.invariant-of-carrier
-invariant-of-carrier c = let k = c.in-ok-read.ensures in (∣ holds_legal _ k.listing k.holds ∣₁, tt)
+invariant-of-carrier c = let k = c.in_ok-read.ensures in (∣ holds_legal _ k.listing k.holds ∣₁, tt)
 
 pub returns : goal.returns
 returns c = record {
-  loads = let k = c.in-ok-read.ensures in record {
+  loads = let k = c.in_ok-read.ensures in record {
     listing = k.listing;
     judged = k.judged;
-    admitted = (verdict_is_declared c.args.script.now (λ i. omega (arith, c.type-inv.script i)) _).0 k.judged;
-    enough = omega (arith, k.holds.sizes.0, c.in-ok-long-enough.ensures);
+    admitted = (verdict_is_declared c.args.script.now (λ i. omega (arith, c.type_inv.script i)) _).0 k.judged;
+    enough = omega (arith, k.holds.sizes.0, c.in_ok-long_enough.ensures);
     n_is = k.holds.sizes.0;
     f_is = k.holds.sizes.1;
     carrier_left = carrier_left _ k.listing _ k.holds refl refl;
-    cards_left = cards_left _ k.listing c.consoles.result c.args.cards.now c.deal-out.new.cards k.holds (c.consoles.ensures ∙ k.holds.sizes.0) c.deal-out.auto.cards c.deal-out.ensures;
+    cards_left = cards_left _ k.listing c.consoles.result c.args.cards.now c.deal_out.new.cards k.holds (c.consoles.ensures ∙ k.holds.sizes.0) c.deal_out.auto.cards c.deal_out.ensures;
   };
   verdicts = judged_as_declared;
 }

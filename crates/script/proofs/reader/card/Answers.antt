@@ -11,6 +11,6 @@ returns c =
       console = get_or bs 1 0;
       letter = get_or bs 2 0;
       delay = get_or bs 3 0;
-      modes = sym c.from-be-bytes.ensures i;
-      seed = sym c.from-be-bytes-2.ensures i;
+      modes = sym c.from_be_bytes.ensures i;
+      seed = sym c.from_be_bytes-2.ensures i;
     }))

@@ -10,5 +10,5 @@ returns c =
     enough 5 bs _ _ (omega (arith, ltb-false)) (λ i. crash (record {
       round = get_or bs 1 0;
       console = get_or bs 2 0;
-      hearers = record { bits = sym (c.from-number.ensures ∙ c.from-be-bytes.ensures) i };
+      hearers = record { bits = sym (c.from_number.ensures ∙ c.from_be_bytes.ensures) i };
     }))

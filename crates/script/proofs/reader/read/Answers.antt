@@ -12,34 +12,34 @@ returns-then-place-script c = record {
   read_back = read_back_anywhere;
 }
 
-pub returns-in-err-command : goal.returns-in-err-command
-returns-in-err-command c =
-    let p = err_from_is_err_and c.from-residual.result c.from-residual.ensures.1 in
+pub returns-in_err-command : goal.returns-in_err-command
+returns-in_err-command c =
+    let p = err_from_is_err_and c.from_residual.result c.from_residual.ensures.1 in
     record {
       stands = rw (p.1, p.2) (refused_there c.args.script.now c.args.place _
-          (ap read_first (sym (take_rest c.args.script.now c.args.place)) ∙ c.in-err-command.ensures));
+          (ap read_first (sym (take_rest c.args.script.now c.args.place)) ∙ c.in_err-command.ensures));
       read_back = read_back_anywhere;
     }
 
 bytes : (c : goal.After-rest·1) → Bytes c.args.script.now
-bytes c i = omega (arith, c.type-inv.script i)
+bytes c i = omega (arith, c.type_inv.script i)
 
-read_here : (c : goal.After-rest·1) → read_first (drop c.args.place c.args.script.now) ≡ found (said c.in-ok-command.command) c.in-ok-command.rest.now
-read_here c = ap read_first (sym (take_rest c.args.script.now c.args.place)) ∙ c.in-ok-command.ensures
+read_here : (c : goal.After-rest·1) → read_first (drop c.args.place c.args.script.now) ≡ found (said c.in_ok-command.command) c.in_ok-command.rest.now
+read_here c = ap read_first (sym (take_rest c.args.script.now c.args.place)) ∙ c.in_ok-command.ensures
 
-next : (c : goal.After-rest·1) → Next c.args.script.now c.args.place (said c.in-ok-command.command) c.in-ok-command.rest.now
+next : (c : goal.After-rest·1) → Next c.args.script.now c.args.place (said c.in_ok-command.command) c.in_ok-command.rest.now
 next c = next_found c.args.script.now (bytes c) c.args.place c.if-place-script.false _ _ (read_here c)
 
-pub overflow-sub-result : goal.overflow-sub-result
-overflow-sub-result c = omega (arith, (next c).inside)
+pub overflow_sub-result : goal.overflow_sub-result
+overflow_sub-result c = omega (arith, (next c).inside)
 
 pub returns : goal.returns
 returns c =
     let script = c.args.script.now in
-    let rest = c.in-ok-command.rest.now in
-    let width = length (bytes_of (said c.in-ok-command.command)) in
+    let rest = c.in_ok-command.rest.now in
+    let width = length (bytes_of (said c.in_ok-command.command)) in
     let starts : length script - length rest ≡ c.args.place + width = omega (arith, (next c).inside) in
-    let read = read_here c ∙ ap (found (said c.in-ok-command.command)) ((next c).rest_is ∙ ap (λ k. drop k script) (sym starts)) in
+    let read = read_here c ∙ ap (found (said c.in_ok-command.command)) ((next c).rest_is ∙ ap (λ k. drop k script) (sym starts)) in
     let here = sound (drop c.args.place script) (bytes_from script (bytes c) c.args.place) _ _ read in
     record {
       stands = record { read = read; bytes = here.0; whole = here.1; place_is = refl; next_is = starts };

@@ -39,7 +39,7 @@ loop-console-preserved c =
     let n = c.loop-console.console in
     let test : ℕ → Bool = λ k. up_after c.args.round (fates c.args.table.now.entries k) in
     let tested : c.up_after.result ≡ test n = c.up_after.ensures ∙ ap (λ x. up_after c.args.round (fate_of x)) c.entry.ensures in
-    elim c.if-up-after.branch [
-      | then-up-after w ↦ ap (λ x. x.bits) w.up-is ∙ those_with n test _ _ (omega arith) c.loop-console.invariant (sym tested ∙ w.if-up-after.true) w.with-up.ensures
-      | else-up-after w ↦ ap (λ x. x.bits) w.up-is ∙ c.loop-console.invariant ∙ those_without n test (sym tested ∙ w.if-up-after.false)
+    elim c.if-up_after.branch [
+      | then-up-after w ↦ ap (λ x. x.bits) w.up-is ∙ those_with n test _ _ (omega arith) c.loop-console.invariant (sym tested ∙ w.if-up_after.true) w.with-up.ensures
+      | else-up-after w ↦ ap (λ x. x.bits) w.up-is ∙ c.loop-console.invariant ∙ those_without n test (sym tested ∙ w.if-up_after.false)
     ]

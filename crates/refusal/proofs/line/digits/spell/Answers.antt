@@ -5,8 +5,8 @@ use Rattle.refusal.proofs.line.digits.spell.Goals as goal
 pub loop-rest-init : goal.loop-rest-init
 loop-rest-init c = search (rules, none_written)
 
-pub overflow-sub-next : goal.overflow-sub-next
-overflow-sub-next c = search (rules, place_before)
+pub overflow_sub-next : goal.overflow_sub-next
+overflow_sub-next c = search (rules, place_before)
 
 pub loop-rest-preserved : goal.loop-rest-preserved
 loop-rest-preserved c = search (rules, digit_written)
