@@ -6,7 +6,7 @@ use Rattle.script.specs.Listing.{entry_for}
 use Rattle.script.specs.Rules.{Rule, first_broken}
 use Rattle.std.proofs.ByRecursion.{All-push}
 use Rattle.std.proofs.lemmas.Bool.{cond-true, cond-false, cases_Bool, both_ways, eqb-false, eq-eqb, ne_eqb}
-use Rattle.std.specs.List.{AllByRecursion as All}
+use Rattle.std.specs.List.{AllByRecursion}
 
 -- a list is empty or has a last element
 pub record Last {A : Type 0} (xs : List A) : Type 0 where
@@ -26,16 +26,16 @@ pub push_not_empty : {A : Type 0} (xs : List A) (x : A) → xs ++ x ∷ [] ≡ [
 push_not_empty [] x e = let z : ◌≡◌ {A = ℕ} 1 0 = ap length e in omega arith
 push_not_empty (y ∷ ys) x e = let z : suc (length (ys ++ x ∷ [])) ≡ 0 = ap length e in omega arith
 
-pub all_front : {A : Type 0} (P : A → Type 0) (xs : List A) (y : A) → All P (xs ++ y ∷ []) → All P xs × P y
+pub all_front : {A : Type 0} (P : A → Type 0) (xs : List A) (y : A) → AllByRecursion P (xs ++ y ∷ []) → AllByRecursion P xs × P y
 all_front P [] y h = (tt, h.0)
 all_front P (x ∷ xs) y h = let (front, last) = all_front P xs y h.1 in ((h.0, front), last)
 
-pub no_two_push : {A : Type 0} (key : A → ℕ) (xs : List A) (y : A) → NoTwo key xs → All (λ x. key x ≡ key y → ⊥) xs → NoTwo key (xs ++ y ∷ [])
+pub no_two_push : {A : Type 0} (key : A → ℕ) (xs : List A) (y : A) → NoTwo key xs → AllByRecursion (λ x. key x ≡ key y → ⊥) xs → NoTwo key (xs ++ y ∷ [])
 no_two_push key [] y h other = (tt, tt)
 no_two_push key (x ∷ xs) y h other =
     (All-push (λ z. key z ≡ key x → ⊥) xs y h.0 (λ e. other.0 (sym e)), no_two_push key xs y h.1 other.1)
 
-pub no_two_front : {A : Type 0} (key : A → ℕ) (xs : List A) (y : A) → NoTwo key (xs ++ y ∷ []) → NoTwo key xs × All (λ x. key x ≡ key y → ⊥) xs
+pub no_two_front : {A : Type 0} (key : A → ℕ) (xs : List A) (y : A) → NoTwo key (xs ++ y ∷ []) → NoTwo key xs × AllByRecursion (λ x. key x ≡ key y → ⊥) xs
 no_two_front key [] y h = (tt, tt)
 no_two_front key (x ∷ xs) y h =
     let (apart, others) = no_two_front key xs y h.1 in
@@ -43,7 +43,7 @@ no_two_front key (x ∷ xs) y h =
     ((front, apart), ((λ e. last (sym e)), others))
 
 -- no entry has the key
-pub absent_others : {A : Type 0} (key : A → ℕ) (c : ℕ) (xs : List A) → is_some (entry_for key c xs) ≡ false → All (λ x. key x ≡ c → ⊥) xs
+pub absent_others : {A : Type 0} (key : A → ℕ) (c : ℕ) (xs : List A) → is_some (entry_for key c xs) ≡ false → AllByRecursion (λ x. key x ≡ c → ⊥) xs
 absent_others key c [] h = tt
 absent_others key c (x ∷ xs) h =
     ⊎_elim
@@ -51,7 +51,7 @@ absent_others key c (x ∷ xs) h =
     (λ no_x. (eqb-false (key x) c no_x, absent_others key c xs (sym (ap is_some (cond-false _ _ _ no_x)) ∙ h)))
     (cases_Bool (eqb (key x) c))
 
-pub others_absent : {A : Type 0} (key : A → ℕ) (c : ℕ) (xs : List A) → All (λ x. key x ≡ c → ⊥) xs → entry_for key c xs ≡ None
+pub others_absent : {A : Type 0} (key : A → ℕ) (c : ℕ) (xs : List A) → AllByRecursion (λ x. key x ≡ c → ⊥) xs → entry_for key c xs ≡ None
 others_absent key c [] h = refl
 others_absent key c (x ∷ xs) h = cond-false _ _ _ (ne_eqb (key x) c h.0) ∙ others_absent key c xs h.1
 
@@ -60,12 +60,12 @@ pub entry_kept : {A : Type 0} (key : A → ℕ) (c : ℕ) (xs : List A) (y : A) 
 entry_kept key c [] y other = cond-false _ _ _ (ne_eqb (key y) c other)
 entry_kept key c (x ∷ xs) y other = ap (cond (eqb (key x) c) (Some x)) (entry_kept key c xs y other)
 
-pub entry_new : {A : Type 0} (key : A → ℕ) (c : ℕ) (xs : List A) (y : A) → key y ≡ c → All (λ x. key x ≡ c → ⊥) xs → entry_for key c (xs ++ y ∷ []) ≡ Some y
+pub entry_new : {A : Type 0} (key : A → ℕ) (c : ℕ) (xs : List A) (y : A) → key y ≡ c → AllByRecursion (λ x. key x ≡ c → ⊥) xs → entry_for key c (xs ++ y ∷ []) ≡ Some y
 entry_new key c [] y is h = cond-true _ _ _ (eq-eqb (key y) c is)
 entry_new key c (x ∷ xs) y is h = cond-false _ _ _ (ne_eqb (key x) c h.0) ∙ entry_new key c xs y is h.1
 
 -- no rule is broken
-pub none_broken : (rs : List Rule) → first_broken rs ≡ None → All (λ r. r.broken ≡ false) rs
+pub none_broken : (rs : List Rule) → first_broken rs ≡ None → AllByRecursion (λ r. r.broken ≡ false) rs
 none_broken [] h = tt
 none_broken (r ∷ rs) h =
     ⊎_elim
@@ -73,7 +73,7 @@ none_broken (r ∷ rs) h =
     (λ not_r. (not_r, none_broken rs (sym (cond-false _ _ _ not_r) ∙ h)))
     (cases_Bool r.broken)
 
-pub all_kept : (rs : List Rule) → All (λ r. r.broken ≡ false) rs → first_broken rs ≡ None
+pub all_kept : (rs : List Rule) → AllByRecursion (λ r. r.broken ≡ false) rs → first_broken rs ≡ None
 all_kept [] h = refl
 all_kept (r ∷ rs) h = cond-false _ _ _ h.0 ∙ all_kept rs h.1
 
@@ -93,6 +93,6 @@ broken_first (r ∷ rs) fault h =
 pub first_is_broken : (rs : List Rule) (fault : CommandFault) → FirstBroken rs fault → first_broken rs ≡ Some fault
 first_is_broken rs fault h = ap first_broken h.stands ∙ past h.earlier h.kept
   where
-    past : (earlier : List Rule) → All (λ r. r.broken ≡ false) earlier → first_broken (earlier ++ record { broken = true; fault = fault } ∷ h.later) ≡ Some fault
+    past : (earlier : List Rule) → AllByRecursion (λ r. r.broken ≡ false) earlier → first_broken (earlier ++ record { broken = true; fault = fault } ∷ h.later) ≡ Some fault
     past [] k = refl
     past (r ∷ more) k = cond-false _ _ _ k.0 ∙ past more k.1

@@ -1,5 +1,6 @@
 -- A load from its first command to what it leaves.
-use Rattle.std.proofs.Common.{◌≡◌, ℕ, zero, suc, ◌+◌, ◌-◌, ◌<◌, ◌≤◌, Bool, true, false, cond, not, eqb, List, [], ◌∷◌, length, get_or, drop, set, is_some, Some, None, Option, unwrap_or, sym, refl, ap, ◌∙◌, subst, ⊎_elim, add-one, arith, length-append, length-drop, get_or-drop, get_or-set_other, get_or-set_same, ext_get_or}
+use Rattle.std.proofs.Common.{◌≡◌, ℕ, zero, suc, ◌+◌, ◌-◌, ◌<◌, ◌≤◌, Bool, true, false, cond, not, eqb, List, [], ◌∷◌, length, get_or, drop, set, is_some, Some, None, Option, unwrap_or, sym, refl, ap, ◌∙◌, subst, ⊎_elim, add-one, arith, rules, length-append, length-drop, get_or-drop, get_or-set_other, get_or-set_same, ext_get_or}
+use denote.Enum.Bare.{sameb, differs_true, differs_false}
 use Rattle.carrier.specs.SetsLemmas.{everybody_members}
 use Rattle.carrier.specs.Losses.{Fate, stays, lost, losing}
 use Rattle.carrier.specs.Sets.{Member, Within, everybody}
@@ -21,12 +22,13 @@ use Rattle.script.specs.declared.loader.Progress.{Progress}
 use Rattle.script.specs.declared.plan.Phase.{Phase}
 use Rattle.script.specs.declared.plan.Phase.TheVariants.{Opening, Cards, Crashes, Ended}
 use Rattle.script.specs.declared.plan.Plan.{Plan}
+use Rattle.script.specs.contracts.plan.Phase.{the_type}
 use Rattle.script.specs.declared.scripted.Scripted.{Scripted}
 use Rattle.script.proofs.Reading.{bytes_from}
 use Rattle.script.proofs.Verdicts.{Goes, judge_goes, walk_stops, walk_goes, walk_ends, judged_whole, not_empty}
 use Rattle.std.proofs.ByRecursion.{All-weaker}
 use Rattle.std.proofs.lemmas.Bool.{cases_lt, cases_eq, cond-true, cond-false, cond_both, eq-eqb, ne_eqb, both_ways}
-use Rattle.std.specs.List.{AllByRecursion as All}
+use Rattle.std.specs.List.{AllByRecursion}
 
 -- where the load of a script is, and that the rest of the walk gives the verdict
 pub record OnWay (script : List ℕ) (at : Progress) : Type 0 where
@@ -171,23 +173,23 @@ filled_none dealt i before now h is = record {
   above = λ c d le. h.above c d (omega arith);
 }
 
-all_both : {A : Type 0} (P Q : A → Type 0) (xs : List A) → All P xs → All Q xs → All (λ x. P x × Q x) xs
+all_both : {A : Type 0} (P Q : A → Type 0) (xs : List A) → AllByRecursion P xs → AllByRecursion Q xs → AllByRecursion (λ x. P x × Q x) xs
 all_both P Q [] h k = tt
 all_both P Q (x ∷ xs) h k = ((h.0, k.0), all_both P Q xs h.1 k.1)
 
 -- where no two share a key, each entry is the one for its key
-own_past : {A : Type 0} (key : A → ℕ) (x : A) (xs ys : List A) → All (λ y. key y ≡ key x → ⊥) ys → All (λ y. entry_for key (key y) xs ≡ Some y) ys
-    → All (λ y. entry_for key (key y) (x ∷ xs) ≡ Some y) ys
+own_past : {A : Type 0} (key : A → ℕ) (x : A) (xs ys : List A) → AllByRecursion (λ y. key y ≡ key x → ⊥) ys → AllByRecursion (λ y. entry_for key (key y) xs ≡ Some y) ys
+    → AllByRecursion (λ y. entry_for key (key y) (x ∷ xs) ≡ Some y) ys
 own_past key x xs [] other own = tt
 own_past key x xs (y ∷ ys) other own =
     (cond-false _ _ _ (ne_eqb (key x) (key y) (λ e. other.0 (sym e))) ∙ own.0, own_past key x xs ys other.1 own.1)
 
-own_entries : {A : Type 0} (key : A → ℕ) (xs : List A) → NoTwo key xs → All (λ y. entry_for key (key y) xs ≡ Some y) xs
+own_entries : {A : Type 0} (key : A → ℕ) (xs : List A) → NoTwo key xs → AllByRecursion (λ y. entry_for key (key y) xs ≡ Some y) xs
 own_entries key [] h = tt
 own_entries key (x ∷ xs) h = (cond-true _ _ _ (eq-eqb (key x) (key x) refl), own_past key x xs xs h.0 (own_entries key xs h.1))
 
 -- the entry for a key is one of the list
-entry_is_listed : {A : Type 0} (P : A → Type 0) (key : A → ℕ) (c : ℕ) (xs : List A) (y : A) → All P xs → entry_for key c xs ≡ Some y → P y
+entry_is_listed : {A : Type 0} (P : A → Type 0) (key : A → ℕ) (c : ℕ) (xs : List A) (y : A) → AllByRecursion P xs → entry_for key c xs ≡ Some y → P y
 entry_is_listed P key c [] y h = λ e. absurd (both_ways true (ap is_some (sym e)) refl)
 entry_is_listed P key c (x ∷ xs) y h =
     cond_both (eqb (key x) c) (Some x) (entry_for key c xs) (λ o. o ≡ Some y → P y)
@@ -290,15 +292,13 @@ cards_left p l n before after h is long filled =
 
 -- what the test for the last phase tells, as the code makes it
 abbrev DiffersBy : Phase → Bool → Type 0
-DiffersBy phase r = (x : Bool) × cond x (phase ≡ Ended) (phase ≡ Ended → ⊥) × (r ≡ not x)
+DiffersBy phase r = r ≡ not (sameb the_type phase Ended)
 
 pub still_open : (phase : Phase) → DiffersBy phase true → phase ≡ Ended → ⊥
-still_open phase (true, h, e) = absurd (both_ways true e refl)
-still_open phase (false, h, e) = h
+still_open phase e = differs_true the_type phase Ended (sym e)
 
 pub at_end : (phase : Phase) → DiffersBy phase false → phase ≡ Ended
-at_end phase (true, h, e) = h
-at_end phase (false, h, e) = absurd (both_ways true (sym e) refl)
+at_end phase e = differs_false the_type (search rules) phase Ended (sym e)
 
 pub none_if_not_some : {A : Type 0} (o : Option A) → ((x : A) → o ≡ Some x → ⊥) → o ≡ None
 none_if_not_some None h = refl

@@ -12,7 +12,7 @@ use Rattle.std.proofs.lemmas.List.Elements.{filter-append}
 use Rattle.std.proofs.ByRecursion.{All-push}
 use Rattle.std.proofs.lemmas.List.{map_push, same_from_push}
 use Rattle.std.proofs.lemmas.Bool.{cond-true, both_ways}
-use Rattle.std.specs.List.{AllByRecursion as All}
+use Rattle.std.specs.List.{AllByRecursion}
 
 -- a command that is no remark is kept, and a remark is not
 kept_one : (before : List Statement) (c : Statement) → no_remark c ≡ true → filter no_remark (before ++ c ∷ []) ≡ filter no_remark before ++ c ∷ []
@@ -98,7 +98,7 @@ pub record Earlier (before : List Statement) (c : Statement) (s : Standing) : Ty
   pub passes : Passes standing c
   pub advances : advance standing c ≡ s
 
-module _ (before : List Statement) (c : Statement) (whole : All Whole before) where
+module _ (before : List Statement) (c : Statement) (whole : AllByRecursion Whole before) where
   abbrev kept : List Statement
   kept = filter no_remark before
 
@@ -178,7 +178,7 @@ module _ (before : List Statement) (c : Statement) (whole : All Whole before) wh
   command_before (under_way l) is h = under_way_before l is h.within_content
   command_before (ended l) is h = after_end l is h.within_content.0 h.within_content.1
 
-remark_before : (before : List Statement) (text : List ℕ) (s : Standing) → All Whole before → Says (before ++ remark text ∷ []) s → Earlier before (remark text) s
+remark_before : (before : List Statement) (text : List ℕ) (s : Standing) → AllByRecursion Whole before → Says (before ++ remark text ∷ []) s → Earlier before (remark text) s
 remark_before before text nothing whole h = record {
   standing = nothing;
   says = record { whole = whole; in_order = sym (kept_none before text) ∙ h.in_order; ends_well = tt; within_content = tt };
@@ -201,7 +201,7 @@ says_less before c s h =
     let (front, last) = all_front Whole before c h.whole in
     (last, by_kind c h front)
   where
-    by_kind : (c : Statement) → Says (before ++ c ∷ []) s → All Whole before → Earlier before c s
+    by_kind : (c : Statement) → Says (before ++ c ∷ []) s → AllByRecursion Whole before → Earlier before c s
     by_kind (link n f) h whole = command_before before (link n f) whole s (sym (kept_one before (link n f) refl) ∙ h.in_order) h
     by_kind (card e) h whole = command_before before (card e) whole s (sym (kept_one before (card e) refl) ∙ h.in_order) h
     by_kind (crash e) h whole = command_before before (crash e) whole s (sym (kept_one before (crash e) refl) ∙ h.in_order) h

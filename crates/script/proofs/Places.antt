@@ -13,7 +13,7 @@ use Rattle.script.proofs.Entries.{last_view}
 use Rattle.script.proofs.Order.{card_order, crash_order, empty_since}
 use Rattle.std.proofs.lemmas.List.{same_from_push}
 use Rattle.std.proofs.lemmas.Bool.{cond-true, cond-false, cond_both, cases_Bool, both_ways, ltb-true, ltb-false}
-use Rattle.std.specs.List.{AllByRecursion as All}
+use Rattle.std.specs.List.{AllByRecursion}
 
 -- the commands by kind
 kind : Statement → ℕ
@@ -107,14 +107,14 @@ is_content (Reader e) = 0
 is_content NotAllowedHere = 0
 is_content (Content e) = 1
 
-only_content : (rs : List Rule) (fault : CommandFault) → All (λ r. is_content r.fault ≡ 1) rs → first_broken rs ≡ Some fault → is_content fault ≡ 1
+only_content : (rs : List Rule) (fault : CommandFault) → AllByRecursion (λ r. is_content r.fault ≡ 1) rs → first_broken rs ≡ Some fault → is_content fault ≡ 1
 only_content [] fault h = λ e. absurd (both_ways true (ap is_some (sym e)) refl)
 only_content (r ∷ rs) fault h =
     cond_both r.broken (Some r.fault) (first_broken rs) (λ o. o ≡ Some fault → is_content fault ≡ 1)
     (λ _ e. subst (λ x. is_content x ≡ 1) (ap (λ o. unwrap_or o fault) e) h.0)
     (λ _ e. only_content rs fault h.1 e)
 
-missing_content : (o : Option ℕ) → All (λ r. is_content r.fault ≡ 1) (missing_card o)
+missing_content : (o : Option ℕ) → AllByRecursion (λ r. is_content r.fault ≡ 1) (missing_card o)
 unfolding is_content
 missing_content None = tt
 missing_content (Some c) = (refl, tt)

@@ -13,22 +13,22 @@ use Rattle.script.specs.Listing.{Listing, has_card, has_crash, region_for}
 use Rattle.script.specs.Rules.{Standing, nothing, under_way, ended, Rule, in_range, readable, rules}
 use Rattle.script.specs.declared.command.CardEntry.{CardEntry}
 use Rattle.script.specs.declared.command.CrashEntry.{CrashEntry}
-use Rattle.std.specs.List.{AllByRecursion as All}
+use Rattle.std.specs.List.{AllByRecursion}
 
 -- no two elements have the same key
 abbrev pub NoTwo : {A : Type 0} → (A → ℕ) → List A → Type 0
 NoTwo key [] = Unit {0}
-NoTwo key (x ∷ xs) = All (λ y. key y ≢ key x) xs × NoTwo key xs
+NoTwo key (x ∷ xs) = AllByRecursion (λ y. key y ≢ key x) xs × NoTwo key xs
 
 -- the rules of content, as statements about what is listed
 pub record Sound (l : Listing) : Type 0 where
   pub sizes : InRange l.n l.f
-  pub cards_in_ring : All (λ e. e.console < l.n) l.cards
+  pub cards_in_ring : AllByRecursion (λ e. e.console < l.n) l.cards
   pub one_card_each : NoTwo (λ e. e.console) l.cards
-  pub cards_readable : All (λ e. (is_some (region_for e.letter) ≡ true) × (e.delay ≤ 15)) l.cards
-  pub crashes_in_ring : All (λ e. e.console < l.n) l.crashes
-  pub rounds_in_time : All (λ e. (1 ≤ e.round) × (e.round ≤ l.f + 1)) l.crashes
-  pub hearers_in_ring : All (λ e. Within e.hearers.bits (everybody l.n)) l.crashes
+  pub cards_readable : AllByRecursion (λ e. (is_some (region_for e.letter) ≡ true) × (e.delay ≤ 15)) l.cards
+  pub crashes_in_ring : AllByRecursion (λ e. e.console < l.n) l.crashes
+  pub rounds_in_time : AllByRecursion (λ e. (1 ≤ e.round) × (e.round ≤ l.f + 1)) l.crashes
+  pub hearers_in_ring : AllByRecursion (λ e. Within e.hearers.bits (everybody l.n)) l.crashes
   pub one_crash_each : NoTwo (λ e. e.console) l.crashes
   pub few_crashes : length l.crashes ≤ l.f
 
@@ -67,7 +67,7 @@ EndsWell before (ended l) = (front : List Statement) × (before ≡ front ++ end
 
 -- these commands are whole, in order and within content, and this is what they say
 pub record Says (before : List Statement) (s : Standing) : Type 0 where
-  pub whole : All Whole before
+  pub whole : AllByRecursion Whole before
   pub in_order : filter no_remark before ≡ commands_of s
   pub ends_well : EndsWell before s
   pub within_content : WithinContent s
@@ -85,13 +85,13 @@ pub record FirstBroken (judged : List Rule) (fault : CommandFault) : Type 0 wher
   pub earlier : List Rule
   pub later : List Rule
   pub stands : judged ≡ earlier ++ record { broken = true; fault = fault } ∷ later
-  pub kept : All (λ r. r.broken ≡ false) earlier
+  pub kept : AllByRecursion (λ r. r.broken ≡ false) earlier
 
 -- what the tests of the rules amount to; those that are not here compare two numbers
 pub record TestsMean : Type 0 where
   pub sizes : (n f : ℕ) → Decides (in_range n f) (InRange n f)
-  pub no_card : (c : ℕ) (cards : List CardEntry) → Decides (not (has_card c cards)) (All (λ e. e.console ≢ c) cards)
-  pub no_crash : (c : ℕ) (crashes : List CrashEntry) → Decides (not (has_crash c crashes)) (All (λ e. e.console ≢ c) crashes)
+  pub no_card : (c : ℕ) (cards : List CardEntry) → Decides (not (has_card c cards)) (AllByRecursion (λ e. e.console ≢ c) cards)
+  pub no_crash : (c : ℕ) (crashes : List CrashEntry) → Decides (not (has_crash c crashes)) (AllByRecursion (λ e. e.console ≢ c) crashes)
   pub card_readable : (e : CardEntry) → Decides (readable e) ((is_some (region_for e.letter) ≡ true) × (e.delay ≤ 15))
   pub round_in_time : (f round : ℕ) → Decides (not (round == 0 || nat_lt (f + 1) round)) ((1 ≤ round) × (round ≤ f + 1))
   pub hearers_in_ring : (n hearers : ℕ) → Decides (not (nat_le (2 ^ n) hearers)) (Within hearers (everybody n))

@@ -10,7 +10,7 @@ use Rattle.script.specs.Listing.{Listing, CardFor, has_crash}
 use Rattle.script.specs.Verdict.{accepted, refused, verdict}
 use Rattle.script.specs.declared.loader.Loaded.{Loaded}
 use Rattle.script.specs.declared.scripted.Scripted.{Scripted}
-use Rattle.std.specs.List.{AllByRecursion as All}
+use Rattle.std.specs.List.{AllByRecursion}
 
 -- what a scripted carrier decides
 abbrev pub pattern_of : Scripted → Pattern
@@ -20,12 +20,12 @@ pattern_of c = losing c.sizes.n c.sizes.f (fates c.table.entries)
 pub record CarrierLeft (l : Listing) (after : Scripted) : Type 0 where
   pub fate : ℕ → Fate
   pub pattern : pattern_of after ≡ losing l.n l.f fate
-  pub lost_as_listed : All (λ e. fate e.console ≡ lost e.round e.hearers.bits) l.crashes
+  pub lost_as_listed : AllByRecursion (λ e. fate e.console ≡ lost e.round e.hearers.bits) l.crashes
   pub others_stay : (c : ℕ) → has_crash c l.crashes ≡ false → fate c ≡ stays
 
 -- the card that is listed for each console lies in its place, and every place from n on is as it was
 pub record CardsLeft (l : Listing) (before after : List StartCard) : Type 0 where
-  pub dealt : All (λ e. (d : StartCard) → CardFor e (slice_index_or after e.console d)) l.cards
+  pub dealt : AllByRecursion (λ e. (d : StartCard) → CardFor e (slice_index_or after e.console d)) l.cards
   pub others : drop l.n after ≡ drop l.n before
   pub long : length after ≡ length before
 

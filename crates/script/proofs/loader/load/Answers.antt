@@ -38,8 +38,8 @@ returns-in_err-long_enough c =
       verdicts = judged_as_declared;
     }
 
-pub invariant-of-carrier : goal.invariant-of-carrier
-invariant-of-carrier c = let k = c.in_ok-read.ensures in (∣ holds_legal _ k.listing k.holds ∣₁, tt)
+pub invariant_of-carrier : goal.invariant_of-carrier
+invariant_of-carrier c = let k = c.in_ok-read.ensures in record { legal = ∣ holds_legal _ k.listing k.holds ∣₁ }
 
 pub returns : goal.returns
 returns c = record {

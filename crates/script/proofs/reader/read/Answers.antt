@@ -21,13 +21,13 @@ returns-in_err-command c =
       read_back = read_back_anywhere;
     }
 
-bytes : (c : goal.After-rest·1) → Bytes c.args.script.now
+bytes : (c : goal.After-rest-1) → Bytes c.args.script.now
 bytes c i = omega (arith, c.type_inv.script i)
 
-read_here : (c : goal.After-rest·1) → read_first (drop c.args.place c.args.script.now) ≡ found (said c.in_ok-command.command) c.in_ok-command.rest.now
+read_here : (c : goal.After-rest-1) → read_first (drop c.args.place c.args.script.now) ≡ found (said c.in_ok-command.command) c.in_ok-command.rest.now
 read_here c = ap read_first (sym (take_rest c.args.script.now c.args.place)) ∙ c.in_ok-command.ensures
 
-next : (c : goal.After-rest·1) → Next c.args.script.now c.args.place (said c.in_ok-command.command) c.in_ok-command.rest.now
+next : (c : goal.After-rest-1) → Next c.args.script.now c.args.place (said c.in_ok-command.command) c.in_ok-command.rest.now
 next c = next_found c.args.script.now (bytes c) c.args.place c.if-place-script.false _ _ (read_here c)
 
 pub overflow_sub-result : goal.overflow_sub-result

@@ -5,7 +5,7 @@ use Rattle.carrier.specs.SetsLemmas.{same_members, those_members}
 use Rattle.std.proofs.lemmas.Bool.{cases_lt, both_ways}
 use Rattle.script.specs.Fates.{fates, fate_of}
 use Rattle.script.proofs.scripted_carrier.staying.Goals as goal
-use Rattle.script.proofs.scripted_carrier.staying.Goals.{then-up-after, else-up-after}
+use Rattle.script.proofs.scripted_carrier.staying.Goals.{then-up_after, else-up_after}
 
 -- one console more, which passes the test
 those_with : (n : ℕ) (test : ℕ → Bool) (s r : ℕ) → n < 16 → s ≡ those n test → test n ≡ true → Added s n r → r ≡ those (n + 1) test
@@ -40,6 +40,6 @@ loop-console-preserved c =
     let test : ℕ → Bool = λ k. up_after c.args.round (fates c.args.table.now.entries k) in
     let tested : c.up_after.result ≡ test n = c.up_after.ensures ∙ ap (λ x. up_after c.args.round (fate_of x)) c.entry.ensures in
     elim c.if-up_after.branch [
-      | then-up-after w ↦ ap (λ x. x.bits) w.up-is ∙ those_with n test _ _ (omega arith) c.loop-console.invariant (sym tested ∙ w.if-up_after.true) w.with-up.ensures
-      | else-up-after w ↦ ap (λ x. x.bits) w.up-is ∙ c.loop-console.invariant ∙ those_without n test (sym tested ∙ w.if-up_after.false)
+      | then-up_after w ↦ ap (λ x. x.bits) w.up-is ∙ those_with n test _ _ (omega arith) c.loop-console.invariant (sym tested ∙ w.if-up_after.true) w.with-up.ensures
+      | else-up_after w ↦ ap (λ x. x.bits) w.up-is ∙ c.loop-console.invariant ∙ those_without n test (sym tested ∙ w.if-up_after.false)
     ]

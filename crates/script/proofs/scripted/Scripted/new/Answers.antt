@@ -1,8 +1,8 @@
 use Rattle.script.specs.Legal.{empty_legal, empty_quiet}
 use Rattle.script.proofs.scripted.Scripted.new.Goals as goal
 
-pub invariant-of-result : goal.invariant-of-result
-invariant-of-result c = (∣ empty_legal _ _ _ c.empty.ensures ∣₁, tt)
+pub invariant_of-result : goal.invariant_of-result
+invariant_of-result c = record { legal = ∣ empty_legal _ _ _ c.empty.ensures ∣₁ }
 
 pub returns : goal.returns
 returns c =
