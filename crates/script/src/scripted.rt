@@ -11,7 +11,7 @@ use carrier::Sizes;
 pub struct Scripted {
     pub(crate) sizes: Sizes,
     pub(crate) table: Table,
-    // a ghost field's fact may have one proof at most; `legal-itself` of proofs/Legal.antt gives the fact without ∥ ∥₁
+    // a ghost field's fact may have one proof at most; `legal_itself` of specs/Legal.antt gives the fact without ∥ ∥₁
     ghost legal: { ∥ Legal sizes.n sizes.f table.entries ∥₁ },
 }
 
