@@ -1,5 +1,5 @@
 -- A load from its first command to what it leaves.
-use Rattle.std.proofs.Common.{◌≡◌, ℕ, zero, suc, ◌+◌, ◌-◌, ◌<◌, ◌≤◌, Bool, true, false, cond, not, eqb, List, [], ◌∷◌, length, get_or, drop, set, is_some, Some, None, Option, unwrap_or, sym, refl, ap, ◌∙◌, subst, ⊎_elim, add-one, arith, rules, length-append, length-drop, get_or-drop, get_or-set_other, get_or-set_same, ext_get_or}
+use Rattle.std.proofs.Common.{◌≡◌, ℕ, zero, suc, ◌+◌, ◌-◌, ◌<◌, ◌≤◌, Bool, true, false, not, eqb, List, [], ◌∷◌, length, get_or, drop, set, is_some, Some, None, Option, unwrap_or, sym, refl, ap, ◌∙◌, subst, ⊎_elim, add-one, arith, rules, length-append, length-drop, get_or-drop, get_or-set_other, get_or-set_same, ext_get_or}
 use denote.Enum.Bare.{sameb, differs_true, differs_false}
 use Rattle.carrier.specs.SetsLemmas.{everybody_members}
 use Rattle.carrier.specs.Losses.{Fate, stays, lost, losing}
