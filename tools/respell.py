@@ -87,7 +87,7 @@ def main():
 
     def spelled(match):
         dot, name = match.group(1), match.group(2)
-        if dot and name not in own_fields and not re.match(r"[\w.]*specs", match.group(0)):
+        if dot and name not in own_fields:
             return match.group(0)
         return dot + names.get(name, name)
 

@@ -1,9 +1,9 @@
 // The carrier that loses nobody.
+ghost use Rattle.carrier.specs.Losing.{quiet_obeys};
 ghost use Rattle.carrier.specs.Losses.{quiet};
 ghost use Rattle.carrier.specs.Sets.{those};
 ghost use Rattle.carrier.specs.Sizes.{MadeFrom};
 ghost use Rattle.std.specs.Prelude.{◌≡◌, true};
-ghost use Rattle.carrier.specs.Losing.{quiet_obeys};
 
 use crate::pattern::Carrier;
 use crate::set::ConsoleSet;

@@ -1,8 +1,8 @@
 // The carrier that loses one console in each round.
+ghost use Rattle.carrier.specs.Losing.{staggered_obeys};
 ghost use Rattle.carrier.specs.Losses.{staggered};
 ghost use Rattle.carrier.specs.Sizes.{MadeFrom};
 ghost use Rattle.std.specs.Prelude.{◌≡◌, ◌≤◌};
-ghost use Rattle.carrier.specs.Losing.{staggered_obeys};
 
 use crate::pattern::Carrier;
 use crate::set::ConsoleSet;

@@ -1,9 +1,9 @@
 pub mod Card
 pub mod Delay
+pub mod Delays
+pub mod Digits
+pub mod ModeSets
 pub mod Modes
 pub mod Region
 pub mod Seed
 pub mod Semilattice
-pub mod Delays
-pub mod Digits
-pub mod ModesJoiningLemmas

@@ -1,6 +1,6 @@
 // Two joinings side by side.
-ghost use Rattle.std.specs.Prelude.{◌≡◌};
 ghost use Rattle.std.proofs.Common.{rules};
+ghost use Rattle.std.specs.Prelude.{◌≡◌};
 
 use crate::kind::Joining;
 

@@ -1,8 +1,8 @@
 // The input delay.
 ghost use Rattle.joining.specs.Delay.{delay_join, frames_of};
+ghost use Rattle.joining.specs.Delays.{delay_laws};
 ghost use Rattle.joining.specs.declared.delay.Delay.{Delay};
 ghost use Rattle.std.specs.Prelude.{◌≡◌, min};
-ghost use Rattle.joining.specs.Delays.{delay_laws};
 
 use crate::kind::Joining;
 

@@ -1,12 +1,8 @@
 // The link modes that a cartridge offers.
+ghost use Rattle.joining.specs.ModeSets.{modes_laws};
 ghost use Rattle.joining.specs.Modes.{modes_join};
 ghost use Rattle.joining.specs.declared.modes.Modes.{Modes};
 ghost use Rattle.std.specs.Prelude.{◌≡◌};
-ghost use Rattle.std.proofs.Common.{ap};
-ghost use Rattle.std.proofs.lemmas.Nat.{and_comm};
-ghost use Rattle.std.specs.Int.Bits.{and_self};
-ghost use Rattle.joining.specs.Digits.{and_assoc};
-ghost use Rattle.joining.specs.ModesJoiningLemmas.{modes};
 
 use crate::kind::Joining;
 
@@ -37,11 +33,7 @@ impl Joining for Modes {
 
     ghost joined = { modes_join };
 
-    ghost laws = { record {
-      order = λ x y. ap modes (and_comm x.set y.set);
-      grouping = λ x y z. ap modes (and_assoc x.set y.set z.set);
-      itself = λ x. ap modes (and_self x.set);
-    } };
+    ghost laws = { modes_laws };
 
     fn join(self, other: Modes) -> Modes {
         Modes {

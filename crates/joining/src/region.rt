@@ -1,8 +1,8 @@
 // The region of a cartridge.
 ghost use Rattle.joining.specs.Region.{region_join, rate_of};
 ghost use Rattle.joining.specs.declared.region.Region.{Region};
-ghost use Rattle.std.specs.Prelude.{◌≡◌};
 ghost use Rattle.std.proofs.Common.{rules};
+ghost use Rattle.std.specs.Prelude.{◌≡◌};
 
 use crate::kind::Joining;
 

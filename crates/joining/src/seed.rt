@@ -1,8 +1,8 @@
 // The random seed.
 ghost use Rattle.joining.specs.Seed.{seed_join};
 ghost use Rattle.joining.specs.declared.seed.Seed.{Seed};
-ghost use Rattle.std.specs.Prelude.{◌≡◌};
 ghost use Rattle.std.proofs.Common.{rules};
+ghost use Rattle.std.specs.Prelude.{◌≡◌};
 
 use crate::kind::Joining;
 

@@ -1,10 +1,10 @@
 pub mod Admitted
 pub mod Fates
 pub mod Format
+pub mod Legal
 pub mod Listing
 pub mod Loading
 pub mod Plans
 pub mod Reading
 pub mod Rules
 pub mod Verdict
-pub mod Legal

@@ -2,9 +2,9 @@
 ghost use Rattle.carrier.specs.Losses.{up_after};
 ghost use Rattle.carrier.specs.Sets.{those};
 ghost use Rattle.script.specs.Fates.{fates};
+ghost use Rattle.script.specs.Legal.{legal_itself, legal_obeys};
 ghost use Rattle.script.specs.Loading.{pattern_of};
 ghost use Rattle.std.specs.Prelude.{◌≡◌, ◌≤◌};
-ghost use Rattle.script.specs.Legal.{legal_itself, legal_obeys};
 
 use crate::scripted::Scripted;
 use crate::table::Table;
