@@ -5,8 +5,8 @@ use Rattle.std.proofs.Common.{pow_pos, ⊎_elim, sym, ap, ◌∙◌, mod-eq_of_l
 use Rattle.std.proofs.Math.Nat.{mod-one}
 use Rattle.std.proofs.lemmas.Nat.{mod_below, ones_cat, mod-pow-add}
 use Rattle.std.proofs.lemmas.Bool.{cases_lt}
+use Rattle.std.proofs.lemmas.Nat.Bits.{bit_at-lt, bit_at_above}
 use Rattle.carrier.specs.Sets.{bit, those, tally, count_below, size}
-use Rattle.carrier.specs.Digits.{bit_below_two, bit_above}
 use Rattle.carrier.specs.SetsLemmas.{bit_of_those, those_below}
 
 ones_of_digit : (b : ℕ) → b < 2 → ones b ≡ b
@@ -21,7 +21,7 @@ ones_below s zero = ap ones (mod-one s)
 ones_below s (suc k) =
     ap (λ j. ones (s % 2 ^ j)) (sym (one-add k)) ∙ ap ones (mod-pow-add s 1 k)
     ∙ ones_cat k (bit s k) (s % 2 ^ k) (mod_below s (2 ^ k) (pow_pos k))
-    ∙ omega (arith, ones_of_digit (bit s k) (bit_below_two s k), ones_below s k)
+    ∙ omega (arith, ones_of_digit (bit s k) (bit_at-lt s k), ones_below s k)
 
 -- the number of digits set is the number of members
 pub ones_size : (s : ℕ) → s < 2 ^ 16 → ones s ≡ size s
@@ -38,7 +38,7 @@ unfolding count_below
 count_above s n zero h le = let e : 0 ≡ n = omega arith in ap (count_below s) e
 count_above s n (suc k) h le =
     ⊎_elim
-    (λ lt. omega (arith, count_above s n k h (omega arith), bit_above s n k h (omega arith)))
+    (λ lt. omega (arith, count_above s n k h (omega arith), bit_at_above s n k h (omega arith)))
     (λ ge. let e : suc k ≡ n = omega arith in ap (count_below s) e)
     (cases_lt n (suc k))
 

@@ -3,6 +3,7 @@ pub mod Digits
 pub mod Losing
 pub mod Losses
 pub mod Pattern
+pub mod Rising
 pub mod Sets
 pub mod SetsLemmas
 pub mod Sizes

@@ -1,20 +1,21 @@
 -- The members of the sets that are made of others, and that a set is known by its members.
 use Rattle.std.specs.Prelude.{◌≡◌, ℕ, zero, suc, ◌+◌, ◌-◌, ◌^◌, ◌<◌, min, Bool, true, false, cond, ◌⊎◌}
 use Rattle.std.specs.Int.Bits.{bit_and, bit_or}
-use Rattle.std.proofs.lemmas.Nat.{or_disjoint}
-use Rattle.std.proofs.Common.{pow_pos, inl, inr, ⊎_elim, sym, ap, subst, ◌∙◌, one-mul, add-zero, arith}
+use Rattle.std.proofs.lemmas.Nat.{and_comm, and-not}
+use Rattle.std.proofs.Common.{inl, inr, ⊎_elim, sym, ap, subst, ◌∙◌, one-mul, add-zero, arith}
 use Rattle.std.proofs.Math.Nat.{two-pow-succ}
-use Rattle.std.proofs.lemmas.Bool.{cases_eq, cases_lt, cases_Bool, cases_order, both_ways}
+use Rattle.std.proofs.lemmas.Bool.{cases_eq, cases_lt, cases_Bool, both_ways}
+use Rattle.std.proofs.lemmas.Nat.Bits.{bit_at-pow_same, bit_at-pow_other, bit_at_ones_above, bit_at-lt, bit_at-zero, bit_at_above, bit_at_and, bit_at_or, bit_at_ones, same_from_bits, bit_at_cat_low}
 use Rattle.carrier.specs.Sets.{bit, Member, Members, Within, nobody, everybody, alone, those}
-use Rattle.carrier.specs.Digits.{bit_below_two, bit_of_nobody, bit_above, bit-and, bit-or, bit_under, bit_at, bit_not, bit_of_ones, same_bits}
+use Rattle.carrier.specs.Digits.{bit_on_top, bit_not}
 
 pub nobody_members : Members nobody (λ c. ⊥)
-nobody_members c = (λ m. omega (arith, bit_of_nobody c), λ none. absurd none)
+nobody_members c = (λ m. omega (arith, bit_at-zero c), λ none. absurd none)
 
 pub everybody_members : (n : ℕ) → Members (everybody n) (λ c. c < n)
 everybody_members n c = (
-  (λ m. ⊎_elim (λ h. h) (λ h. absurd (omega (arith, bit_above (everybody n) n c (omega (arith, pow_pos n)) h))) (cases_lt c n)),
-  (λ h. bit_of_ones n c h),
+  (λ m. ⊎_elim (λ h. h) (λ h. absurd (omega (arith, bit_at_ones_above n c h))) (cases_lt c n)),
+  (λ h. bit_at_ones n c h),
 )
 
 -- the consoles below n, of the sixteen that there are
@@ -24,31 +25,24 @@ everybody_here n s e c = (
   (λ h. subst (Member c) (sym e) ((everybody_members (min n 16) c).1 (omega (arith, h.0, h.1)))),
 )
 
-bit_of_alone : (k : ℕ) → bit (alone k) k ≡ 1
-bit_of_alone k = ap (λ s. bit s k) (sym (add-zero _ ∙ one-mul (2 ^ k))) ∙ bit_at k 1 0 (pow_pos k)
-
 pub alone_members : (k : ℕ) → Members (alone k) (λ c. c ≡ k)
 alone_members k c = (
-  (λ m. ⊎_elim (λ h. h)
-      (⊎_elim
-      (λ h. absurd (omega (arith, m, bit_under k 1 0 c h, bit_of_nobody c, ap (λ s. bit s c) (add-zero _ ∙ one-mul (2 ^ k)))))
-      (λ h. absurd (omega (arith, m, bit_above (alone k) (suc k) c (omega (arith, two-pow-succ k, pow_pos k)) h))))
-      (cases_order c k)),
-  (λ e. subst (λ x. Member x (alone k)) (sym e) (bit_of_alone k)),
+  (λ m. ⊎_elim (λ e. e) (λ ne. absurd (omega (arith, m, bit_at-pow_other k c ne))) (cases_eq c k)),
+  (λ e. subst (λ x. Member x (alone k)) (sym e) (bit_at-pow_same k)),
 )
 
 pub and_members : (s t : ℕ) → Members (bit_and s t) (λ c. Member c s × Member c t)
 and_members s t c =
-    let both = bit-and s t c in
-    let left = bit_below_two s c in
-    let right = bit_below_two t c in
+    let both = bit_at_and s t c in
+    let left = bit_at-lt s c in
+    let right = bit_at-lt t c in
     ((λ m. (omega arith, omega arith)), (λ m. omega arith))
 
 pub or_members : (s t : ℕ) → Members (bit_or s t) (λ c. Member c s ⊎ Member c t)
 or_members s t c =
-    let either = bit-or s t c in
-    let left = bit_below_two s c in
-    let right = bit_below_two t c in (
+    let either = bit_at_or s t c in
+    let left = bit_at-lt s c in
+    let right = bit_at-lt t c in (
       (λ m. ⊎_elim inl (λ h. inr (omega arith)) (cases_eq (bit s c) 1)),
       (λ m. ⊎_elim (λ h. omega arith) (λ h. omega arith) m),
     )
@@ -56,42 +50,28 @@ or_members s t c =
 -- s without t, where both are of consoles below k
 pub minus_members : (k s t : ℕ) → s < 2 ^ k → t < 2 ^ k → Members (bit_and s (2 ^ k - 1 - t)) (λ c. Member c s × (Member c t → ⊥))
 minus_members k s t hs ht c =
-    let both = bit-and s (2 ^ k - 1 - t) c in
-    let left = bit_below_two s c in
-    let right = bit_below_two t c in
+    let both = bit_at_and s (2 ^ k - 1 - t) c in
+    let left = bit_at-lt s c in
+    let right = bit_at-lt t c in
     ⊎_elim
     (λ lt. let other = bit_not k t c ht lt in ((λ m. (omega arith, λ n. omega arith)), (λ m. absent m.1 (λ (e : bit t c ≡ 0). omega (arith, m.0)))))
-    (λ ge. let none = bit_above s k c hs ge in ((λ m. absurd (omega arith)), (λ m. absurd (omega (arith, m.0)))))
+    (λ ge. let none = bit_at_above s k c hs ge in ((λ m. absurd (omega arith)), (λ m. absurd (omega (arith, m.0)))))
     (cases_lt c k)
   where
     absent : {A : Type 0} → (Member c t → ⊥) → (bit t c ≡ 0 → A) → A
-    absent out then = ⊎_elim (λ e. absurd (out e)) (λ ne. then (omega (arith, bit_below_two t c))) (cases_eq (bit t c) 1)
+    absent out then = ⊎_elim (λ e. absurd (out e)) (λ ne. then (omega (arith, bit_at-lt t c))) (cases_eq (bit t c) 1)
 
 -- two sets with the same members are the same number
 pub same_members : {P Q : ℕ → Type 0} (s t : ℕ) → Members s P → Members t Q → ((c : ℕ) → P c → Q c) → ((c : ℕ) → Q c → P c) → s ≡ t
 same_members s t ms mt there back =
-    same_bits s t (λ c. let left = bit_below_two s c in let right = bit_below_two t c in
+    same_from_bits s t (λ c. let left = bit_at-lt s c in let right = bit_at-lt t c in
     ⊎_elim
     (λ e. e ∙ sym ((mt c).1 (there c ((ms c).0 e))))
     (λ ne. ⊎_elim (λ e. absurd (ne ((ms c).1 (back c ((mt c).0 e))))) (λ ne2. omega arith) (cases_eq (bit t c) 1))
     (cases_eq (bit s c) 1))
 
--- what s shares with t, and what it does not, are apart and make up s
-module _ (k s t : ℕ) (hs : s < 2 ^ k) (ht : t < 2 ^ k) where
-  rest_apart : bit_and (bit_and s (2 ^ k - 1 - t)) (bit_and s t) ≡ nobody
-  rest_apart =
-      same_members _ _ (and_members (bit_and s (2 ^ k - 1 - t)) (bit_and s t)) nobody_members
-      (λ c m. ((minus_members k s t hs ht c).0 m.0).1 ((and_members s t c).0 m.1).1)
-      (λ c none. absurd none)
-
-  rest_whole : bit_or (bit_and s (2 ^ k - 1 - t)) (bit_and s t) ≡ s
-  rest_whole =
-      same_members _ _ (or_members (bit_and s (2 ^ k - 1 - t)) (bit_and s t)) (λ c. ((λ m. m), (λ m. m)))
-      (λ c m. ⊎_elim (λ h. ((minus_members k s t hs ht c).0 h).0) (λ h. ((and_members s t c).0 h).0) m)
-      (λ c m. ⊎_elim (λ h. inr ((and_members s t c).1 (m, h))) (λ h. inl ((minus_members k s t hs ht c).1 (m, h))) (cases_eq (bit t c) 1))
-
-  pub minus_number : bit_and s (2 ^ k - 1 - t) ≡ s - bit_and s t
-  minus_number = omega (arith, or_disjoint _ _ rest_apart, rest_whole)
+pub minus_number : (k s t : ℕ) → s < 2 ^ k → t < 2 ^ k → bit_and s (2 ^ k - 1 - t) ≡ s - bit_and s t
+minus_number k s t hs ht = omega (arith, and-not k t s ht hs, and_comm s (2 ^ k - 1 - t), and_comm s t)
 
 pub those_below : (n : ℕ) (test : ℕ → Bool) → those n test < 2 ^ n
 unfolding those
@@ -106,15 +86,15 @@ those_top : (n : ℕ) (test : ℕ → Bool) → bit (those (suc n) test) n ≡ c
 unfolding those
 those_top n test =
     elim (test n) as (λ b. bit (those n test + cond b (alone n) nobody) n ≡ cond b 1 0) [
-      | true ↦ ap (λ s. bit s n) (omega (arith, one-mul (2 ^ n))) ∙ bit_at n 1 (those n test) (those_below n test)
-      | false ↦ ap (λ s. bit s n) (add-zero _) ∙ bit_above _ n n (those_below n test) (omega arith)
+      | true ↦ ap (λ s. bit s n) (omega (arith, one-mul (2 ^ n))) ∙ bit_on_top n 1 (those n test) (those_below n test)
+      | false ↦ ap (λ s. bit s n) (add-zero _) ∙ bit_at_above _ n n (those_below n test) (omega arith)
     ]
 
 those_low : (n : ℕ) (test : ℕ → Bool) (c : ℕ) → c < n → bit (those (suc n) test) c ≡ bit (those n test) c
 unfolding those
 those_low n test c h =
     elim (test n) as (λ b. bit (those n test + cond b (alone n) nobody) c ≡ bit (those n test) c) [
-      | true ↦ ap (λ s. bit s c) (omega (arith, one-mul (2 ^ n))) ∙ bit_under n 1 (those n test) c h
+      | true ↦ ap (λ s. bit s c) (omega (arith, one-mul (2 ^ n))) ∙ bit_at_cat_low 1 n (those n test) c h
       | false ↦ ap (λ s. bit s c) (add-zero _)
     ]
 
@@ -134,7 +114,7 @@ those_members n test c =
     (λ yes_is. ((λ m. (lt, yes_is)), (λ p. here ∙ ap (λ b. cond b 1 0) yes_is)))
     (λ no_is. ((λ m. absurd (omega (arith, m, here ∙ ap (λ b. cond b 1 0) no_is))), (λ p. absurd (both_ways _ no_is p.1))))
     (cases_Bool (test c)))
-    (λ ge. ((λ m. absurd (omega (arith, m, bit_above _ n c (those_below n test) ge))), (λ p. absurd (omega (arith, p.0)))))
+    (λ ge. ((λ m. absurd (omega (arith, m, bit_at_above _ n c (those_below n test) ge))), (λ p. absurd (omega (arith, p.0)))))
     (cases_lt c n)
 
 pub within_and : (s t : ℕ) → Within s t → bit_and s t ≡ s

@@ -1,6 +1,7 @@
 // Carriers decide who of a ring is lost and who hears whom.
 #![tactic(auto)]
 
+mod consoles;
 mod pattern;
 mod quiet;
 mod set;
@@ -8,6 +9,7 @@ mod sizes;
 mod staggered;
 mod word;
 
+pub use consoles::Consoles;
 pub use pattern::Carrier;
 pub use quiet::Quiet;
 pub use set::ConsoleSet;

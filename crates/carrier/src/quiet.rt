@@ -26,6 +26,7 @@ impl Quiet {
 }
 
 // All of a ring.
+#[tactic(auto, using(crate::specs::Losing::quiet_up))]
 fn everyone(sizes: Sizes) -> ConsoleSet
     ensures { result.bits ≡ those sizes.n (λ c. true) }
 {

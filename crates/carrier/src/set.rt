@@ -110,11 +110,6 @@ impl ConsoleSet {
     pub fn lowest_from(self, start: u8) -> Option<u8>
         ensures { LowestFrom self.bits start result }
     {
-        for console in start..16 {
-            if self.holds(console) {
-                return Some(console);
-            }
-        }
-        None
+        (start..16).find(|&console| self.holds(console))
     }
 }

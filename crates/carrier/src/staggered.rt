@@ -2,7 +2,7 @@
 ghost use Rattle.carrier.specs.Losing.{staggered_obeys};
 ghost use Rattle.carrier.specs.Losses.{staggered};
 ghost use Rattle.carrier.specs.Sizes.{MadeFrom};
-ghost use Rattle.std.specs.Prelude.{◌≡◌, ◌≤◌};
+ghost use Rattle.std.specs.Prelude.{◌≡◌};
 
 use crate::pattern::Carrier;
 use crate::set::ConsoleSet;
@@ -24,13 +24,12 @@ impl Staggered {
     }
 }
 
-// Who is up after the round, on a ring of `n` that loses `f`.
-fn staying(n: u8, f: u8, round: u8) -> ConsoleSet
-    requires { n ≤ 16 }
-    ensures { result.bits ≡ (staggered n f).up round }
+// Who is up after the round.
+fn staying(sizes: Sizes, round: u8) -> ConsoleSet
+    ensures { result.bits ≡ (staggered sizes.n sizes.f).up round }
 {
-    let gone = round.min(f);
-    ConsoleSet::all_of(n).difference(ConsoleSet::all_of(gone))
+    let gone = round.min(sizes.losses());
+    ConsoleSet::all_of(sizes.consoles()).difference(ConsoleSet::all_of(gone))
 }
 
 impl Carrier for Staggered {
@@ -43,7 +42,7 @@ impl Carrier for Staggered {
     }
 
     fn up(&self, round: u8) -> ConsoleSet {
-        staying(self.sizes.consoles(), self.sizes.losses(), round)
+        staying(self.sizes, round)
     }
 
     fn heard(&self, round: u8, sender: u8) -> ConsoleSet {

@@ -14,12 +14,14 @@ pub(crate) fn single(console: u8) -> u16
     if console < 16 { 1 << console } else { 0 }
 }
 
+#[tactic(auto, using(crate::specs::SetsLemmas::or_members))]
 pub(crate) fn either(s: u16, t: u16) -> u16
     ensures { Union s t result }
 {
     s | t
 }
 
+#[tactic(auto, using(crate::specs::SetsLemmas::and_members))]
 pub(crate) fn common(s: u16, t: u16) -> u16
     ensures { Intersection s t result }
 {
@@ -32,18 +34,21 @@ pub(crate) fn minus(s: u16, t: u16) -> u16
     s & !t
 }
 
+#[tactic(auto, using(std::proofs::lemmas::Nat::Bits::bit_at_above))]
 pub(crate) fn has(s: u16, console: u8) -> bool
     ensures { Decides result (Member console s) }
 {
     console < 16 && (s >> console) & 1 == 1
 }
 
+#[tactic(auto, using(crate::specs::SetsLemmas::within_and, crate::specs::SetsLemmas::and_within))]
 pub(crate) fn within(s: u16, t: u16) -> bool
     ensures { Decides result (Within s t) }
 {
     s & t == s
 }
 
+#[tactic(auto, using(crate::specs::Counting::ones_size))]
 pub(crate) fn ones(s: u16) -> u8
     ensures { result ≡ size s }
 {

@@ -46,13 +46,11 @@ fn print_losses(
     round: u8,
     lost: ConsoleSet,
 ) -> io::Result<()> {
-    let mut start = 0;
-    while let Some(console) = lost.lowest_from(start) {
+    for console in lost {
         print!(rt;
             ", lost {console} heard by {}",
             ShownSet(ring.heard(round, console))
         )?;
-        start = console + 1;
     }
     Ok(())
 }
@@ -60,7 +58,7 @@ fn print_losses(
 fn print_schedule(rt: &impl Print, ring: &impl Carrier) -> io::Result<()> {
     let mut before = ring.up(0);
     println!(rt; "before round 1: up {}", ShownSet(before))?;
-    for round in 1..ring.sizes().losses() + 2 {
+    for round in 1..=ring.sizes().losses() + 1 {
         let after = ring.up(round);
         print!(rt; "round {round}: up {}", ShownSet(after))?;
         print_losses(rt, ring, round, before.difference(after))?;

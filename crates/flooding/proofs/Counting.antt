@@ -1,15 +1,15 @@
 -- How many consoles are in a set that lies within another, and how many pairs are counted at the most.
 use Rattle.std.proofs.Common.{◌≡◌, ℕ, zero, suc, ◌+◌, ◌*◌, ◌<◌, ◌≤◌, min, Bool, true, false, cond, sym, subst, ⊎_elim, arith}
 use Rattle.std.proofs.lemmas.Bool.{cases_lt, cases_eq, and_from, and_parts}
+use Rattle.std.proofs.lemmas.Nat.Bits.{bit_at-lt}
 use Rattle.carrier.specs.Sets.{bit, Member, Within, count_below, size, tally}
-use Rattle.carrier.specs.Digits.{bit_below_two}
 use Rattle.flooding.specs.Posts.{posted, total, posts_in, PostsAreBounded}
 use Rattle.flooding.proofs.Rounds.{collecting, collected, up_in_ring}
 use Rattle.flooding.proofs.Sets.{held, holding}
 
 bit_within : (s t c : ℕ) → Within s t → bit s c ≤ bit t c
 bit_within s t c w =
-    ⊎_elim (λ e. omega (arith, e, w c e)) (λ ne. omega (arith, bit_below_two s c)) (cases_eq (bit s c) 1)
+    ⊎_elim (λ e. omega (arith, e, w c e)) (λ ne. omega (arith, bit_at-lt s c)) (cases_eq (bit s c) 1)
 
 count_within : (s t k : ℕ) → Within s t → count_below s k ≤ count_below t k
 unfolding count_below
@@ -24,7 +24,7 @@ count_same s t (suc k) w e c h m =
     let here = bit_within s t k w in
     ⊎_elim
     (λ lt. count_same s t k w (omega arith) c lt m)
-    (λ ge. let at : k ≡ c = omega arith in subst (λ x. Member x s) at (omega (arith, subst (λ x. Member x t) (sym at) m, bit_below_two s k)))
+    (λ ge. let at : k ≡ c = omega arith in subst (λ x. Member x s) at (omega (arith, subst (λ x. Member x t) (sym at) m, bit_at-lt s k)))
     (cases_lt c k)
 
 pub size_within : (s t : ℕ) → Within s t → size s ≤ size t
@@ -42,7 +42,7 @@ count_few s n zero few = omega arith
 count_few s n (suc k) few =
     ⊎_elim
     (λ e. omega (arith, count_few s n k few, few k e))
-    (λ ne. omega (arith, count_few s n k few, bit_below_two s k))
+    (λ ne. omega (arith, count_few s n k few, bit_at-lt s k))
     (cases_eq (bit s k) 1)
 
 pub size_few : (s n : ℕ) → ((c : ℕ) → Member c s → c < n) → size s ≤ n

@@ -3,8 +3,8 @@ use Rattle.std.proofs.Common.{◌≡◌, ℕ, zero, suc, ◌^◌, ◌<◌, Bool,
 use lib.Bits.{bit_or}
 use native.Mathlib.Nat.{two-pow-succ}
 use Rattle.std.proofs.lemmas.Bool.{cases_lt, both_ways}
+use Rattle.std.proofs.lemmas.Nat.Bits.{bit_at_above}
 use Rattle.carrier.specs.Sets.{Member, holds, alone}
-use Rattle.carrier.specs.Digits.{bit_above}
 use Rattle.carrier.specs.SetsLemmas.{alone_members, or_members}
 use Rattle.joining.specs.Semilattice.{Semilattice}
 use Rattle.flooding.specs.Rounds.{joined_if, gathered}
@@ -90,7 +90,7 @@ below_power (suc n) = omega (arith, below_power n, two-pow-succ n)
 
 member_below : (s c : ℕ) → Member c s → c < s
 member_below s c m =
-    ⊎_elim (λ lt. lt) (λ ge. absurd (omega (arith, m, bit_above s s c (below_power s) ge))) (cases_lt c s)
+    ⊎_elim (λ lt. lt) (λ ge. absurd (omega (arith, m, bit_at_above s s c (below_power s) ge))) (cases_lt c s)
 
 leaves_through : (x y : Tree) → leaves (node x y) ≡ bit_or (leaves x) (leaves y)
 unfolding leaves

@@ -2,8 +2,8 @@
 use Rattle.std.proofs.Common.{◌≡◌, ℕ, true, subst, inl, inr, ⊎_elim, arith}
 use lib.Bits.{bit_or, or_comm, or_self}
 use Rattle.std.proofs.lemmas.Bool.{eqb-true, eq-eqb}
+use Rattle.std.proofs.lemmas.Nat.Bits.{bit_at_or, same_from_bits}
 use Rattle.carrier.specs.Sets.{Member, Members, Within, holds}
-use Rattle.carrier.specs.Digits.{bit-or, same_bits}
 use Rattle.carrier.specs.SetsLemmas.{or_members, same_members}
 use Rattle.joining.specs.Semilattice.{Semilattice}
 use Rattle.flooding.proofs.Joins.{Below}
@@ -19,7 +19,7 @@ itself : (s : ℕ) → Members s (λ c. Member c s)
 itself s c = ((λ m. m), (λ m. m))
 
 or_grouping : (s t u : ℕ) → bit_or (bit_or s t) u ≡ bit_or s (bit_or t u)
-or_grouping s t u = same_bits _ _ (λ c. omega (arith, bit-or (bit_or s t) u c, bit-or s t c, bit-or s (bit_or t u) c, bit-or t u c))
+or_grouping s t u = same_from_bits _ _ (λ c. omega (arith, bit_at_or (bit_or s t) u c, bit_at_or s t c, bit_at_or s (bit_or t u) c, bit_at_or t u c))
 
 pub union_laws : Semilattice bit_or
 union_laws = record { order = or_comm; grouping = or_grouping; itself = or_self }

@@ -5,6 +5,7 @@ use joining::Joining;
 
 // Whoever was down stays down; whoever stays up collects from all that stay up and from none that was down, and its new
 // record is the join of what it collects.
+#[tactic(auto, using(crate::proofs::Legality::round_is_legal_lem))]
 pub fn round_is_legal<J: Joining>()
     ensures { RoundIsLegal J.Joining.Meaning }
 {}

@@ -9,6 +9,7 @@ pub fn one_quiet_round_is_enough<J: Joining>()
 {}
 
 // One of the first f + 1 rounds passes without a loss.
+#[tactic(auto, using(crate::proofs::Agreeing::some_round_loses_nobody_lem))]
 pub fn some_round_loses_nobody()
     ensures { SomeRoundLosesNobody }
 {}

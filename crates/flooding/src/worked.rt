@@ -5,6 +5,7 @@ ghost use Rattle.std.specs.Prelude.{◌≡◌};
 use joining::{Card, Joining};
 
 // A ring of three that loses a console between two of its messages, a staggered ring of four and a quiet ring of one.
+#[tactic(auto, using(crate::proofs::Rings::worked_rings_lem))]
 pub fn worked_rings()
     ensures { WorkedRings }
 {}

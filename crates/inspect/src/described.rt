@@ -17,11 +17,9 @@ fn print_cards(rt: &impl Print, cards: &[Card]) -> io::Result<()> {
 
 // Those who are lost in one round, by rising console.
 fn print_lost(rt: &impl Print, ring: &impl Carrier, round: u8, lost: ConsoleSet) -> io::Result<()> {
-    let mut start = 0;
-    while let Some(console) = lost.lowest_from(start) {
+    for console in lost {
         let hearers = ShownSet(ring.heard(round, console));
         println!(rt; "console {console} is lost in round {round}, heard by {hearers}")?;
-        start = console + 1;
     }
     Ok(())
 }
@@ -30,7 +28,7 @@ fn print_lost(rt: &impl Print, ring: &impl Carrier, round: u8, lost: ConsoleSet)
 fn print_losses(rt: &impl Print, ring: &impl Carrier) -> io::Result<()> {
     let first = ring.up(0);
     let mut before = first;
-    for round in 1..ring.sizes().losses() + 2 {
+    for round in 1..=ring.sizes().losses() + 1 {
         let after = ring.up(round);
         print_lost(rt, ring, round, before.difference(after))?;
         before = after;

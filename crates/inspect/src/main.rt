@@ -3,6 +3,7 @@
 
 mod described;
 
+use arrayvec::ArrayVec;
 use joining::{Card, Delay, Modes, Region, Seed};
 use script::Scripted;
 use std::io;
@@ -10,19 +11,6 @@ use std::io::Read;
 
 // One more than a script may have, so that a script that is too long is seen to be.
 const MOST_READ: usize = 4097;
-
-// Fills the buffer from the input, which may come in pieces, and answers the part that was filled.
-fn fill<'a>(input: &mut impl Read, buffer: &'a mut [u8; MOST_READ]) -> io::Result<&'a [u8]> {
-    let mut filled = 0;
-    while filled < buffer.len() {
-        let count = input.read(&mut buffer[filled..])?;
-        if count == 0 {
-            break;
-        }
-        filled += count;
-    }
-    Ok(&buffer[0..filled])
-}
 
 fn blank_card() -> Card {
     Card::new(
@@ -34,12 +22,12 @@ fn blank_card() -> Card {
 }
 
 fn main(rt: HostRuntime) -> io::Result<()> {
-    let mut buffer = [0; MOST_READ];
-    let bytes = fill(&mut rt.stdin(), &mut buffer)?;
+    let mut bytes = ArrayVec::<u8, MOST_READ>::new();
+    io::copy(&mut rt.stdin().take(MOST_READ as u64), &mut bytes)?;
     let mut ring = Scripted::new();
     let mut cards = [blank_card(); 16];
-    match script::load(bytes, &mut ring, &mut cards) {
-        Ok(loaded) => described::print(&rt, bytes, &ring, &cards, loaded),
-        Err(fault) => rt.write_all(fault.line().as_bytes()),
+    match script::load(&bytes, &mut ring, &mut cards) {
+        Ok(loaded) => described::print(&rt, &bytes, &ring, &cards, loaded),
+        Err(fault) => print!(rt; "{}", fault.line()),
     }
 }

@@ -1,7 +1,6 @@
 pub mod Card
 pub mod Delay
 pub mod Delays
-pub mod Digits
 pub mod ModeSets
 pub mod Modes
 pub mod Region

@@ -7,7 +7,7 @@ ghost use Rattle.std.specs.Prelude.{◌≡◌, min};
 use crate::kind::Joining;
 
 // How many frames an input waits before it counts, 0 to 15.
-#[derive(Clone, Copy, PartialEq, Eq, Debug)]
+#[derive(Clone, Copy, PartialEq, Eq, PartialOrd, Ord, Debug)]
 pub enum Delay {
     Zero,
     One,
@@ -68,11 +68,8 @@ impl Joining for Delay {
 
     ghost laws = { delay_laws };
 
+    #[tactic(auto, using(crate::proofs::Greater::greater_remains))]
     fn join(self, other: Delay) -> Delay {
-        if self.frames() < other.frames() {
-            other
-        } else {
-            self
-        }
+        self.max(other)
     }
 }

@@ -7,7 +7,7 @@ ghost use Rattle.std.specs.Prelude.{◌≡◌};
 use crate::kind::Joining;
 
 // Where the game's random numbers begin.
-#[derive(Clone, Copy, PartialEq, Eq, Debug)]
+#[derive(Clone, Copy, PartialEq, Eq, PartialOrd, Ord, Debug)]
 pub struct Seed {
     value: u32,
 }
@@ -36,10 +36,6 @@ impl Joining for Seed {
     ghost laws = { Prim.search rules };
 
     fn join(self, other: Seed) -> Seed {
-        if other.value < self.value {
-            other
-        } else {
-            self
-        }
+        self.min(other)
     }
 }

@@ -23,13 +23,11 @@ const JOINS: [[Region; 4]; 4] = [
 
 #[test]
 fn every_pair_and_triple_of_regions(rt: HostRuntime) {
-    for i in 0..4 {
-        let x = REGIONS[i];
+    for (x, row) in REGIONS.into_iter().zip(JOINS) {
         assert_eq!(rt; x.join(x), x);
-        for j in 0..4 {
-            let y = REGIONS[j];
-            assert_eq!(rt; x.join(y), JOINS[i][j]);
-            assert_eq!(rt; y.join(x), JOINS[i][j]);
+        for (y, joined) in REGIONS.into_iter().zip(row) {
+            assert_eq!(rt; x.join(y), joined);
+            assert_eq!(rt; y.join(x), joined);
             for z in REGIONS {
                 assert_eq!(rt; x.join(y).join(z), x.join(y.join(z)));
             }

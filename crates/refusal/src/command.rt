@@ -56,11 +56,7 @@ impl CommandFault {
         ensures { result ≡ command_names self }
     {
         match self {
-            CommandFault::Reader(_) | CommandFault::NotAllowedHere => Names {
-                console: None,
-                round: None,
-                rounds_left: None,
-            },
+            CommandFault::Reader(_) | CommandFault::NotAllowedHere => Names::default(),
             CommandFault::Content(lower) => lower.names(),
         }
     }

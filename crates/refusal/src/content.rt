@@ -51,18 +51,13 @@ impl ContentFault {
         ensures { result ≡ content_names self }
     {
         match self {
-            ContentFault::SizesOutOfRange => Names {
-                console: None,
-                round: None,
-                rounds_left: None,
-            },
+            ContentFault::SizesOutOfRange => Names::default(),
             ContentFault::ConsoleOutOfRange { console }
             | ContentFault::SecondCard { console }
             | ContentFault::CardOutOfRange { console }
             | ContentFault::CardMissing { console } => Names {
                 console: Some(console),
-                round: None,
-                rounds_left: None,
+                ..Names::default()
             },
             ContentFault::RoundOutOfRange { console, round }
             | ContentFault::HearersOutOfRange { console, round }
@@ -70,7 +65,7 @@ impl ContentFault {
             | ContentFault::TooManyCrashes { console, round } => Names {
                 console: Some(console),
                 round: Some(round),
-                rounds_left: None,
+                ..Names::default()
             },
         }
     }

@@ -12,7 +12,7 @@ pub enum Layer {
 }
 
 // What a refusal points at besides its number: nothing, or some of a console, a round and a number of rounds left.
-#[derive(Clone, Copy, PartialEq, Eq, Debug)]
+#[derive(Clone, Copy, PartialEq, Eq, Debug, Default)]
 pub struct Names {
     pub console: Option<u8>,
     pub round: Option<u8>,

@@ -4,7 +4,7 @@ ghost use Rattle.refusal.specs.declared.load.LoadFault.TheVariants.{Command, Lis
 ghost use Rattle.std.specs.Prelude.{◌≡◌};
 
 use crate::command::CommandFault;
-use crate::layer::Layer;
+use crate::layer::{Layer, Names};
 use crate::list::ListFault;
 
 // A command's fault, with the place of the command's first byte and how many commands stood before it.
@@ -82,21 +82,24 @@ impl LoadFault {
         }
     }
 
+    fn names(self) -> Names
+        ensures { result ≡ load_names self }
+    {
+        match self {
+            LoadFault::Command(stopped) => stopped.fault.names(),
+            LoadFault::TooLong | LoadFault::List(_) => Names::default(),
+        }
+    }
+
     pub fn console(self) -> Option<u8>
         ensures { result ≡ (load_names self).console }
     {
-        match self {
-            LoadFault::Command(stopped) => stopped.fault.names().console,
-            LoadFault::TooLong | LoadFault::List(_) => None,
-        }
+        self.names().console
     }
 
     pub fn round(self) -> Option<u8>
         ensures { result ≡ (load_names self).round }
     {
-        match self {
-            LoadFault::Command(stopped) => stopped.fault.names().round,
-            LoadFault::TooLong | LoadFault::List(_) => None,
-        }
+        self.names().round
     }
 }

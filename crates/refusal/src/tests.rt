@@ -1,5 +1,7 @@
 // The table row by row, and the line that reports a refused load.
 use crate::*;
+use arrayvec::ArrayString;
+use std::fmt::{self, Write};
 use std::process::Abort;
 
 fn refused(fault: CommandFault) -> LoadFault {
@@ -213,4 +215,13 @@ fn longest_line(rt: HostRuntime) {
         of_content(fault, usize::MAX, usize::MAX),
         b"refused 12 content at 18446744073709551615 after 18446744073709551615 console 255 round 255\n",
     );
+}
+
+#[test]
+fn a_line_prints_its_text(rt: HostRuntime) -> fmt::Result {
+    let line = LoadFault::TooLong.line();
+    let mut printed = ArrayString::<96>::new();
+    write!(printed, "{line}")?;
+    assert_eq!(rt; printed.as_str(), "refused 1 entry at 0 after 0\n");
+    Ok(())
 }

@@ -1,7 +1,6 @@
 -- What a command adds to what stands, rule by rule: a command that breaks no rule keeps what is listed sound, and the last
 -- command of what is soundly listed breaks no rule.
 use Rattle.std.proofs.Common.{◌≡◌, ℕ, zero, suc, ◌+◌, ◌^◌, ◌<◌, true, false, cond, ◌&&◌, eqb, ltb, leb, List, [], ◌∷◌, length, is_some, Some, None, Option, unwrap_or, sym, refl, ap, ◌∙◌, subst, ⊎_elim, arith, length-append, pow_pos}
-use Rattle.carrier.specs.Digits.{bit_above}
 use Rattle.carrier.specs.SetsLemmas.{everybody_members, within_and}
 use Rattle.carrier.specs.Sets.{Within, everybody}
 use Rattle.carrier.specs.Sizes.{InRange}
@@ -15,6 +14,7 @@ use Rattle.script.proofs.Entries.{all_front, no_two_push, no_two_front, absent_o
 use Rattle.std.proofs.lemmas.Nat.{and_mask, mod_below}
 use Rattle.std.proofs.ByRecursion.{All-push}
 use Rattle.std.proofs.lemmas.Bool.{cond-true, cond-false, cond_both, cases_Bool, cases_lt, both_ways, leb-true, leb-false, le-leb, lt-leb, ltb-true, ltb-false, lt-ltb, le-ltb, eqb-false, ne_eqb, not-true, not-false, not_from_true, not_from_false, and_parts, and_from, or_parts, or_from}
+use Rattle.std.proofs.lemmas.Nat.Bits.{bit_at_above}
 
 -- the command breaks none of its rules there
 abbrev pub Passes : Standing → Statement → Type 0
@@ -33,7 +33,7 @@ true_in_range n f (low, high, below) = and_from _ _ (le-leb 1 n low) (and_from _
 -- the hearers are of the ring exactly where their number is below 2 ^ n
 pub hearers_below : (n s : ℕ) → s < 2 ^ n → Within s (everybody n)
 hearers_below n s h c m =
-    (everybody_members n c).1 (⊎_elim (λ lt. lt) (λ ge. absurd (omega (arith, m, bit_above s n c h ge))) (cases_lt c n))
+    (everybody_members n c).1 (⊎_elim (λ lt. lt) (λ ge. absurd (omega (arith, m, bit_at_above s n c h ge))) (cases_lt c n))
 
 pub below_hearers : (n s : ℕ) → Within s (everybody n) → s < 2 ^ n
 below_hearers n s w = subst (λ x. x < 2 ^ n) (sym (and_mask s n) ∙ within_and s (everybody n) w) (mod_below s (2 ^ n) (pow_pos n))

@@ -37,15 +37,13 @@ pub struct ShownSet(pub ConsoleSet);
 
 impl fmt::Display for ShownSet {
     fn fmt<W: fmt::Write>(&self, f: &mut fmt::Formatter<W>) -> fmt::Result {
-        let consoles = self.0;
-        let Some(first) = consoles.lowest_from(0) else {
+        let mut consoles = self.0.into_iter();
+        let Some(first) = consoles.next() else {
             return write!(f, "nobody");
         };
         write!(f, "{first}")?;
-        let mut start = first + 1;
-        while let Some(console) = consoles.lowest_from(start) {
+        for console in consoles {
             write!(f, " {console}")?;
-            start = console + 1;
         }
         Ok(())
     }
