@@ -7,7 +7,6 @@ mod quiet;
 mod set;
 mod sizes;
 mod staggered;
-mod word;
 
 pub use consoles::Consoles;
 pub use pattern::Carrier;

@@ -1,8 +1,6 @@
-// Sets of consoles. No file but this one and `word.rt` works on the bits of a set.
+// Sets of consoles. No other file works on the bits of a set.
 ghost use Rattle.carrier.specs.Sets.{AllBelow, Single, Union, Intersection, Difference, Added, Removed, LowestFrom, Member, Members, Within, nobody, size};
 ghost use Rattle.std.specs.Prelude.{◌≡◌, Decides};
-
-use crate::word;
 
 // A set of consoles 0 to 15, as a 16-bit number of which bit c stands for console c. There is no console above 15, so
 // that none can be put in.
@@ -36,7 +34,7 @@ impl ConsoleSet {
         ensures { AllBelow n result.bits }
     {
         ConsoleSet {
-            bits: word::below(n),
+            bits: if n < 16 { (1 << n) - 1 } else { u16::MAX },
         }
     }
 
@@ -44,23 +42,25 @@ impl ConsoleSet {
         ensures { Single console result.bits }
     {
         ConsoleSet {
-            bits: word::single(console),
+            bits: if console < 16 { 1 << console } else { 0 },
         }
     }
 
+    #[tactic(auto, using(crate::specs::SetsLemmas::or_members))]
     pub fn union(self, other: ConsoleSet) -> ConsoleSet
         ensures { Union self.bits other.bits result.bits }
     {
         ConsoleSet {
-            bits: word::either(self.bits, other.bits),
+            bits: self.bits | other.bits,
         }
     }
 
+    #[tactic(auto, using(crate::specs::SetsLemmas::and_members))]
     pub fn intersection(self, other: ConsoleSet) -> ConsoleSet
         ensures { Intersection self.bits other.bits result.bits }
     {
         ConsoleSet {
-            bits: word::common(self.bits, other.bits),
+            bits: self.bits & other.bits,
         }
     }
 
@@ -68,42 +68,40 @@ impl ConsoleSet {
         ensures { Difference self.bits other.bits result.bits }
     {
         ConsoleSet {
-            bits: word::minus(self.bits, other.bits),
+            bits: self.bits & !other.bits,
         }
     }
 
     pub fn with(self, console: u8) -> ConsoleSet
         ensures { Added self.bits console result.bits }
     {
-        ConsoleSet {
-            bits: word::either(self.bits, word::single(console)),
-        }
+        self.union(ConsoleSet::one(console))
     }
 
     pub fn without(self, console: u8) -> ConsoleSet
         ensures { Removed self.bits console result.bits }
     {
-        ConsoleSet {
-            bits: word::cleared(self.bits, console),
-        }
+        self.difference(ConsoleSet::one(console))
     }
 
     pub fn holds(self, console: u8) -> bool
         ensures { Decides result (Member console self.bits) }
     {
-        word::has(self.bits, console)
+        console < 16 && (self.bits >> console) & 1 == 1
     }
 
+    #[tactic(auto, using(crate::specs::SetsLemmas::within_and, crate::specs::SetsLemmas::and_within))]
     pub fn is_subset(self, other: ConsoleSet) -> bool
         ensures { Decides result (Within self.bits other.bits) }
     {
-        word::within(self.bits, other.bits)
+        self.intersection(other) == self
     }
 
+    #[tactic(auto, using(crate::specs::Counting::ones_size))]
     pub fn count(self) -> u8
         ensures { result ≡ size self.bits }
     {
-        word::ones(self.bits)
+        self.number().count_ones() as u8
     }
 
     // The lowest member from `start` on. Asked from 0 and then from one past each answer, it gives all members, rising.

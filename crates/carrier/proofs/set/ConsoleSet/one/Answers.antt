@@ -3,7 +3,7 @@ use Rattle.std.proofs.lemmas.Nat.{one_shl}
 use Rattle.std.proofs.lemmas.Bool.{cond-true, lt-ltb}
 use Rattle.carrier.specs.Sets.{Member}
 use Rattle.carrier.specs.SetsLemmas.{alone_members}
-use Rattle.carrier.proofs.word.single.Goals as goal
+use Rattle.carrier.proofs.set.ConsoleSet.one.Goals as goal
 
 pub returns-then-console-lt16 : goal.returns-then-console-lt16
 returns-then-console-lt16 c =

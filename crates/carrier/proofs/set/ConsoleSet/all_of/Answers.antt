@@ -2,7 +2,7 @@ use Rattle.std.proofs.Common.{◌≡◌, ◌-◌, ◌*◌, ◌%◌, ◌^◌, min
 use Rattle.std.proofs.lemmas.Nat.{one_shl}
 use Rattle.carrier.specs.Sets.{everybody}
 use Rattle.carrier.specs.SetsLemmas.{everybody_here}
-use Rattle.carrier.proofs.word.below.Goals as goal
+use Rattle.carrier.proofs.set.ConsoleSet.all_of.Goals as goal
 
 pub returns-then-n-lt16 : goal.returns-then-n-lt16
 returns-then-n-lt16 c =
