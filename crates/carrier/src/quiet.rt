@@ -17,6 +17,7 @@ pub struct Quiet {
 }
 
 impl Quiet {
+    // As `Staggered::new`: a type with the kind of carrier for a parameter would need more than these two lines.
     pub fn new(n: u8, f: u8) -> Result<Quiet, ContentFault>
         ensures { MadeFrom n f (λ c. c.sizes.n) (λ c. c.sizes.f) result }
     {

@@ -10,6 +10,7 @@ pub struct ConsoleSet {
 }
 
 impl ConsoleSet {
+    // By name, and no `From`: the number alone does not say that its bits are consoles.
     pub fn from_number(number: u16) -> ConsoleSet
         ensures { result.bits ≡ number }
     {

@@ -28,7 +28,8 @@ pub enum Delay {
 }
 
 impl Delay {
-    // The delay of that many frames, and of 15 where there are more.
+    // The delay of that many frames, and of 15 where there are more: no `From`, since that would not show that it stops
+    // at 15.
     pub fn from_frames(frames: u8) -> Delay
         ensures { frames_of result ≡ min frames 15 }
     {

@@ -13,6 +13,7 @@ pub struct Modes {
 }
 
 impl Modes {
+    // By name, and no `From`: the number alone does not say that its bits are modes.
     pub fn new(set: u16) -> Modes
         ensures { result.set ≡ set }
     {

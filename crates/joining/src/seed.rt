@@ -6,7 +6,8 @@ ghost use Rattle.std.specs.Prelude.{◌≡◌};
 
 use crate::kind::Joining;
 
-// Where the game's random numbers begin.
+// Where the game's random numbers begin. It is made and read as `Modes` is, and joins in another way, so that one type
+// for both would still need two joins.
 #[derive(Clone, Copy, PartialEq, Eq, PartialOrd, Ord, Debug)]
 pub struct Seed {
     value: u32,

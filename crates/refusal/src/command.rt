@@ -15,6 +15,7 @@ pub enum CommandFault {
     Content(ContentFault),
 }
 
+// Written out and not derived: a derive's contract would not say which case a fault becomes.
 impl From<ReaderFault> for CommandFault {
     ghost from_gives = { λ lower r. r ≡ Reader lower };
 

@@ -32,6 +32,7 @@ impl fmt::Display for Line {
     }
 }
 
+// A name to push, and no `Display`: a text of fixed capacity takes a `&str` for certain, and a `write!` perhaps.
 fn layer_name(layer: Layer) -> &'static str
     ensures name { result.now ≡ layer_name_lem layer }
     ensures size { length result.now ≤ 7 }

@@ -23,6 +23,7 @@ pub enum LoadFault {
     List(ListFault),
 }
 
+// Written out and not derived: a derive's contract would not say which case a fault becomes.
 impl From<Stopped> for LoadFault {
     ghost from_gives = { λ lower r. r ≡ Command lower };
 
@@ -60,7 +61,8 @@ impl LoadFault {
         }
     }
 
-    // Where the command that is refused begins.
+    // Where the command that is refused begins. `count` has the same three arms: one function for the pair of both would
+    // leave each of them to take it apart again.
     pub fn place(self) -> Option<usize>
         ensures { result ≡ load_place self }
     {

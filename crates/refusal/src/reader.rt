@@ -22,6 +22,8 @@ impl ReaderFault {
         }
     }
 
+    // One layer for all its faults, as a content fault and a list fault have: as a constant of a trait it would ask an
+    // import of each caller.
     pub fn layer(self) -> Layer
         ensures { result ≡ reader_layer self }
     {

@@ -1,6 +1,7 @@
 pub mod Content
 pub mod Entries
 pub mod Loads
+pub mod Losses
 pub mod Order
 pub mod Places
 pub mod Plans

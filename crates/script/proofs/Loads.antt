@@ -1,15 +1,15 @@
 -- A load from its first command to what it leaves.
-use Rattle.std.proofs.Common.{◌≡◌, ℕ, zero, suc, ◌+◌, ◌-◌, ◌<◌, ◌≤◌, Bool, true, false, not, eqb, List, [], ◌∷◌, length, get_or, drop, set, is_some, Some, None, Option, unwrap_or, sym, refl, ap, ◌∙◌, subst, ⊎_elim, add-one, arith, rules, length-append, length-drop, get_or-drop, get_or-set_other, get_or-set_same, ext_get_or}
+use Rattle.std.proofs.Common.{◌≡◌, ℕ, zero, suc, ◌+◌, ◌-◌, ◌<◌, ◌≤◌, Bool, true, false, not, List, [], ◌∷◌, length, get_or, drop, Some, None, Option, sym, refl, ap, ◌∙◌, subst, add-one, arith, rules, length-append, length-drop, get_or-drop, ext_get_or}
 use denote.Enum.Bare.{sameb, differs_true, differs_false}
 use Rattle.carrier.specs.SetsLemmas.{everybody_members}
-use Rattle.carrier.specs.Losses.{Fate, stays, lost, losing}
+use Rattle.carrier.specs.Losses.{losing}
 use Rattle.carrier.specs.Sets.{Member, Within, everybody}
 use Rattle.joining.specs.Card.{StartCard}
 use Rattle.refusal.specs.declared.command.CommandFault.TheVariants.{NotAllowedHere}
 use Rattle.refusal.specs.declared.load.LoadFault.{LoadFault}
 use Rattle.refusal.specs.declared.load.Stopped.{Stopped}
 use Rattle.script.specs.Admitted.{NoTwo, Sound, Unended}
-use Rattle.script.specs.Fates.{fates, one_if_lost, losses_below, WithinRing, Legal}
+use Rattle.script.specs.Fates.{fates, WithinRing, Legal}
 use Rattle.script.specs.Format.{bytes_of, Bytes}
 use Rattle.script.specs.Listing.{Listing, CardFor, entry_for, crash_for, fate_of_entry, listed_fate}
 use Rattle.script.specs.Loading.{CarrierLeft, CardsLeft}
@@ -20,14 +20,15 @@ use Rattle.script.specs.declared.command.CardEntry.{CardEntry}
 use Rattle.script.specs.declared.command.CrashEntry.{CrashEntry}
 use Rattle.script.specs.declared.loader.Progress.{Progress}
 use Rattle.script.specs.declared.plan.Phase.{Phase}
-use Rattle.script.specs.declared.plan.Phase.TheVariants.{Opening, Cards, Crashes, Ended}
+use Rattle.script.specs.declared.plan.Phase.TheVariants.{Opening, Ended}
 use Rattle.script.specs.declared.plan.Plan.{Plan}
 use Rattle.script.specs.contracts.plan.Phase.{the_type}
 use Rattle.script.specs.declared.scripted.Scripted.{Scripted}
+use Rattle.script.proofs.Losses.{none_since, losses_listed}
 use Rattle.script.proofs.Reading.{bytes_from}
 use Rattle.script.proofs.Verdicts.{Goes, judge_goes, walk_stops, walk_goes, walk_ends, judged_whole, not_empty}
+use Rattle.std.proofs.lemmas.Bool.Decides.{nat_tests}
 use Rattle.std.proofs.ByRecursion.{All-weaker}
-use Rattle.std.proofs.lemmas.Bool.{cases_lt, cases_eq, cond-true, cond-false, cond_both, eq-eqb, ne_eqb, both_ways}
 use Rattle.std.specs.List.{AllByRecursion}
 
 -- where the load of a script is, and that the rest of the walk gives the verdict
@@ -56,23 +57,11 @@ unended_since p nothing h ne = tt
 unended_since p (under_way l) h ne = tt
 unended_since p (ended l) h ne = ne h.phase
 
-is_ended : Phase → ℕ
-is_ended Opening = 0
-is_ended Cards = 0
-is_ended Crashes = 0
-is_ended Ended = 1
-
 not_ended : (crashes : List CrashEntry) → phase_behind crashes ≡ Ended → ⊥
-unfolding is_ended
-not_ended [] e = let z : ◌≡◌ {A = ℕ} 0 1 = ap is_ended e in omega arith
-not_ended (x ∷ xs) e = let z : ◌≡◌ {A = ℕ} 0 1 = ap is_ended e in omega arith
-
-opening_not_ended : Opening ≡ Ended → ⊥
-unfolding is_ended
-opening_not_ended e = let z : ◌≡◌ {A = ℕ} 0 1 = ap is_ended e in omega arith
+not_ended crashes e = grind arith
 
 pub ended_since : (p : Plan) (s : Standing) → Holds p s → p.phase ≡ Ended → (l : Listing) × (s ≡ ended l)
-ended_since p nothing h is = absurd (opening_not_ended (sym h.phase ∙ is))
+ended_since p nothing h is = let never : Opening ≡ Ended = sym h.phase ∙ is in cc
 ended_since p (under_way l) h is = absurd (not_ended l.crashes (sym h.phase ∙ is))
 ended_since p (ended l) h is = (l, refl)
 
@@ -147,108 +136,38 @@ module _ (script : List ℕ) (at : Progress) (w : OnWay script at) (is_end : at.
       go l [] h = refl
       go l (b ∷ more) h = absurd (omega arith)
 
--- one place more is filled
-pub filled_some : (dealt : List (Option StartCard)) (i : ℕ) (before now : List StartCard) (x : StartCard) → Filled dealt i before now → i < length now → get_or dealt i None ≡ Some x
-    → Filled dealt (i + 1) before (set now i x)
-filled_some dealt i before now x h lt is = record {
-  below = λ c y d below lies.
-      ⊎_elim
-      (λ less. get_or-set_other now i c x d (λ z. omega arith) ∙ h.below c y d less lies)
-      (λ more.
-      let same : i ≡ c = omega arith in
-      ap (λ k. get_or (set now i x) k d) (sym same) ∙ get_or-set_same now i x d lt ∙ ap (λ o. unwrap_or o y) (sym is ∙ ap (λ k. get_or dealt k None) same ∙ lies))
-      (cases_lt c i);
-  above = λ c d le. get_or-set_other now i c x d (λ z. omega arith) ∙ h.above c d (omega arith);
-}
-
-pub filled_none : (dealt : List (Option StartCard)) (i : ℕ) (before now : List StartCard) → Filled dealt i before now → get_or dealt i None ≡ None → Filled dealt (i + 1) before now
-filled_none dealt i before now h is = record {
-  below = λ c y d below lies.
-      ⊎_elim
-      (λ less. h.below c y d less lies)
-      (λ more.
-      let same : i ≡ c = omega arith in
-      absurd (both_ways true (ap is_some (sym lies ∙ ap (λ k. get_or dealt k None) (sym same) ∙ is)) refl))
-      (cases_lt c i);
-  above = λ c d le. h.above c d (omega arith);
-}
-
 all_both : {A : Type 0} (P Q : A → Type 0) (xs : List A) → AllByRecursion P xs → AllByRecursion Q xs → AllByRecursion (λ x. P x × Q x) xs
 all_both P Q [] h k = tt
-all_both P Q (x ∷ xs) h k = ((h.0, k.0), all_both P Q xs h.1 k.1)
+all_both P Q (x ∷ xs) h k = grind (arith, all_both P Q xs h.1 k.1)
 
 -- where no two share a key, each entry is the one for its key
 own_past : {A : Type 0} (key : A → ℕ) (x : A) (xs ys : List A) → AllByRecursion (λ y. key y ≡ key x → ⊥) ys → AllByRecursion (λ y. entry_for key (key y) xs ≡ Some y) ys
     → AllByRecursion (λ y. entry_for key (key y) (x ∷ xs) ≡ Some y) ys
 own_past key x xs [] other own = tt
-own_past key x xs (y ∷ ys) other own =
-    (cond-false _ _ _ (ne_eqb (key x) (key y) (λ e. other.0 (sym e))) ∙ own.0, own_past key x xs ys other.1 own.1)
+own_past key x xs (y ∷ ys) other own = grind (arith, nat_tests, own_past key x xs ys other.1 own.1)
 
 own_entries : {A : Type 0} (key : A → ℕ) (xs : List A) → NoTwo key xs → AllByRecursion (λ y. entry_for key (key y) xs ≡ Some y) xs
 own_entries key [] h = tt
-own_entries key (x ∷ xs) h = (cond-true _ _ _ (eq-eqb (key x) (key x) refl), own_past key x xs xs h.0 (own_entries key xs h.1))
+own_entries key (x ∷ xs) h = grind (arith, nat_tests, own_past key x xs xs h.0 (own_entries key xs h.1))
 
 -- the entry for a key is one of the list
 entry_is_listed : {A : Type 0} (P : A → Type 0) (key : A → ℕ) (c : ℕ) (xs : List A) (y : A) → AllByRecursion P xs → entry_for key c xs ≡ Some y → P y
-entry_is_listed P key c [] y h = λ e. absurd (both_ways true (ap is_some (sym e)) refl)
-entry_is_listed P key c (x ∷ xs) y h =
-    cond_both (eqb (key x) c) (Some x) (entry_for key c xs) (λ o. o ≡ Some y → P y)
-    (λ _ e. subst P (ap (λ o. unwrap_or o y) e) h.0)
-    (λ _ e. entry_is_listed P key c xs y h.1 e)
-
-none_since : {A : Type 0} (o : Option A) → is_some o ≡ false → o ≡ None
-none_since None h = refl
-none_since (Some x) h = absurd (both_ways true h refl)
-
--- an entry adds at most the console that it names
-beyond : (e : CrashEntry) (crashes : List CrashEntry) (c : ℕ) → (e.console ≡ c → ⊥) → listed_fate (e ∷ crashes) c ≡ listed_fate crashes c
-beyond e crashes c other = ap fate_of_entry (cond-false _ _ _ (ne_eqb e.console c other))
-
-at_most_one : (x : Fate) → one_if_lost x ≤ 1
-at_most_one stays = omega arith
-at_most_one (lost round hearers) = omega arith
-
-before_it : (e : CrashEntry) (crashes : List CrashEntry) (n : ℕ) → n ≤ e.console → losses_below (listed_fate (e ∷ crashes)) n ≡ losses_below (listed_fate crashes) n
-before_it e crashes zero h = refl
-before_it e crashes (suc n) h = omega (arith, before_it e crashes n (omega arith), ap one_if_lost (beyond e crashes n (λ z. omega arith)))
-
-one_more : (e : CrashEntry) (crashes : List CrashEntry) (n : ℕ) → losses_below (listed_fate (e ∷ crashes)) n ≤ suc (losses_below (listed_fate crashes) n)
-one_more e crashes zero = omega arith
-one_more e crashes (suc n) =
-    ⊎_elim
-    (λ here. omega (arith, before_it e crashes n (omega arith), at_most_one (listed_fate (e ∷ crashes) n)))
-    (λ other. omega (arith, one_more e crashes n, ap one_if_lost (beyond e crashes n other)))
-    (cases_eq e.console n)
-
--- at most as many consoles are lost as crashes are listed
-lost_at_most : (crashes : List CrashEntry) (n : ℕ) → losses_below (listed_fate crashes) n ≤ length crashes
-lost_at_most [] zero = omega arith
-lost_at_most [] (suc n) = omega (arith, lost_at_most [] n)
-lost_at_most (e ∷ crashes) n = omega (arith, one_more e crashes n, lost_at_most crashes n)
-
-same_losses : (x y : ℕ → Fate) → ((c : ℕ) → x c ≡ y c) → (n : ℕ) → losses_below x n ≡ losses_below y n
-same_losses x y same zero = refl
-same_losses x y same (suc n) = omega (arith, same_losses x y same n, ap one_if_lost (same n))
+entry_is_listed P key c [] y h e = cc
+entry_is_listed P key c (x ∷ xs) y h e = grind (arith, nat_tests, entry_is_listed P key c xs y)
 
 listed_within : (l : Listing) → Sound l → (o : Option CrashEntry) → ((e : CrashEntry) → o ≡ Some e → (1 ≤ e.round) × (e.round ≤ l.f + 1) × ((c : ℕ) → Member c e.hearers.bits → c < l.n))
     → WithinRing l.n l.f (fate_of_entry o)
-listed_within l h None each = tt
-listed_within l h (Some e) each = each e refl
+listed_within l h o each = grind arith
 
 pub holds_legal : (p : Plan) (l : Listing) → Holds p (ended l) → Legal p.sizes.n p.sizes.f p.table.entries
 holds_legal p l h =
     let sound = h.content.0 in
-    let same = same_losses (fates p.table.entries) (listed_fate l.crashes) h.fate 16 in
     record {
-      few = omega (arith, same, lost_at_most l.crashes 16, sound.few_crashes, h.sizes.1);
-      each = λ c.
-          subst (λ x. WithinRing p.sizes.n p.sizes.f x) (sym (h.fate c))
-          (subst (λ n. WithinRing n p.sizes.f (listed_fate l.crashes c)) (sym h.sizes.0)
-          (subst (λ f. WithinRing l.n f (listed_fate l.crashes c)) (sym h.sizes.1)
-          (listed_within l sound (crash_for c l.crashes) (λ e is.
+      few = omega (arith, losses_listed p l sound h.fate, sound.few_crashes, h.sizes.1);
+      each = λ c. rw (h.fate c, h.sizes.0, h.sizes.1) (listed_within l sound (crash_for c l.crashes) (λ e is.
           let time = entry_is_listed (λ x. (1 ≤ x.round) × (x.round ≤ l.f + 1)) (λ x. x.console) c l.crashes e sound.rounds_in_time is in
           let heard = entry_is_listed (λ x. Within x.hearers.bits (everybody l.n)) (λ x. x.console) c l.crashes e sound.hearers_in_ring is in
-          (time.0, time.1, λ k m. (everybody_members l.n k).0 (heard k m))))));
+          (time.0, time.1, λ k m. (everybody_members l.n k).0 (heard k m))));
     }
 
 pub carrier_left : (p : Plan) (l : Listing) (after : Scripted) → Holds p (ended l) → after.sizes ≡ p.sizes → after.table ≡ p.table → CarrierLeft l after
@@ -271,8 +190,7 @@ same_behind before after n long same = go (drop n after) (drop n before) (length
     go (x ∷ xs) ys size h = ext_get_or x (x ∷ xs) ys size (λ i lt. h i x)
 
 lies_dealt : (x : Option StartCard) (e : CardEntry) → Dealt x (Some e) → (card : StartCard) × (x ≡ Some card) × CardFor e card
-lies_dealt None e h = absurd h
-lies_dealt (Some card) e h = (card, refl, h)
+lies_dealt x e h = grind arith
 
 pub cards_left : (p : Plan) (l : Listing) (n : ℕ) (before after : List StartCard) → Holds p (ended l) → n ≡ l.n → length after ≡ length before → Filled p.cards n before after
     → CardsLeft l before after
@@ -299,7 +217,3 @@ still_open phase e = differs_true the_type phase Ended (sym e)
 
 pub at_end : (phase : Phase) → DiffersBy phase false → phase ≡ Ended
 at_end phase e = differs_false the_type (search rules) phase Ended (sym e)
-
-pub none_if_not_some : {A : Type 0} (o : Option A) → ((x : A) → o ≡ Some x → ⊥) → o ≡ None
-none_if_not_some None h = refl
-none_if_not_some (Some x) h = absurd (h x refl)

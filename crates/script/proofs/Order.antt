@@ -1,5 +1,5 @@
 -- What commands say, one command more and one command less.
-use Rattle.std.proofs.Common.{◌≡◌, ℕ, true, List, [], ◌∷◌, ◌++◌, map, length, is_some, Some, None, filter, sym, refl, ap, ◌∙◌, subst, ⊎_elim, append_assoc, append-nil, arith}
+use Rattle.std.proofs.Common.{◌≡◌, ℕ, true, List, [], ◌∷◌, ◌++◌, map, length, filter, sym, refl, ap, ◌∙◌, subst, ⊎_elim, arith}
 use Rattle.script.specs.Admitted.{Sound, Complete, ring_commands, commands_of, no_remark, Says, Unended}
 use Rattle.script.specs.Format.{Statement, link, card, crash, remark, end, Whole}
 use Rattle.script.specs.Listing.{Listing}
@@ -10,37 +10,26 @@ use Rattle.script.proofs.Content.{Passes, link_next, link_last, card_next, card_
 use Rattle.script.proofs.Entries.{last_view, push_not_empty, all_front}
 use Rattle.std.proofs.lemmas.List.Elements.{filter-append}
 use Rattle.std.proofs.ByRecursion.{All-push}
-use Rattle.std.proofs.lemmas.List.{map_push, same_from_push}
-use Rattle.std.proofs.lemmas.Bool.{cond-true, both_ways}
+use Rattle.std.proofs.lemmas.List.{map_push, nil_from_length, same_from_push}
+use Rattle.std.proofs.lemmas.Bool.Decides.{nat_tests}
+use Rattle.std.proofs.lemmas.Grind.{common_steps}
 use Rattle.std.specs.List.{AllByRecursion}
 
 -- a command that is no remark is kept, and a remark is not
 kept_one : (before : List Statement) (c : Statement) → no_remark c ≡ true → filter no_remark (before ++ c ∷ []) ≡ filter no_remark before ++ c ∷ []
-kept_one before c is = filter-append no_remark before (c ∷ []) ∙ ap (λ xs. filter no_remark before ++ xs) (cond-true _ _ _ is)
+kept_one before c is = grind (arith, nat_tests, filter-append no_remark before (c ∷ []))
 
 kept_none : (before : List Statement) (text : List ℕ) → filter no_remark (before ++ remark text ∷ []) ≡ filter no_remark before
-kept_none before text = filter-append no_remark before (remark text ∷ []) ∙ append-nil (filter no_remark before)
+kept_none before text = grind (arith, common_steps, nat_tests, filter-append no_remark before (remark text ∷ []))
 
 -- CARDs before CRASHes
 pub card_order : (cards : List CardEntry) (crashes : List CrashEntry) (e : CardEntry) → crashes ≡ []
     → (map card cards ++ map crash crashes) ++ card e ∷ [] ≡ map card (cards ++ e ∷ []) ++ map crash crashes
-card_order cards crashes e none =
-    ap (λ xs. (map card cards ++ map crash xs) ++ card e ∷ []) none
-    ∙ ap (λ xs. xs ++ card e ∷ []) (append-nil (map card cards))
-    ∙ sym (map_push card cards e)
-    ∙ sym (append-nil (map card (cards ++ e ∷ [])))
-    ∙ ap (λ xs. map card (cards ++ e ∷ []) ++ map crash xs) (sym none)
+card_order cards crashes e none = rw none (grind (arith, common_steps, map_push card))
 
 pub crash_order : (cards : List CardEntry) (crashes : List CrashEntry) (e : CrashEntry)
     → (map card cards ++ map crash crashes) ++ crash e ∷ [] ≡ map card cards ++ map crash (crashes ++ e ∷ [])
-crash_order cards crashes e = append_assoc (map card cards) (map crash crashes) (crash e ∷ []) ∙ ap (λ xs. map card cards ++ xs) (sym (map_push crash crashes e))
-
-pub empty_since : {A : Type 0} (xs : List A) → length xs ≡ 0 → xs ≡ []
-empty_since [] h = refl
-empty_since (x ∷ xs) h = absurd (omega arith)
-
-never : {A : Type 0} (x : A) → Some x ≡ None → ⊥
-never x e = both_ways true (ap is_some e) refl
+crash_order cards crashes e = grind (arith, common_steps, map_push crash)
 
 -- one command more, which breaks no rule
 pub says_more : (before : List Statement) (s : Standing) (c : Statement) → Says before s → Unended s → Whole c → Passes s c → Says (before ++ c ∷ []) (advance s c)
@@ -50,21 +39,21 @@ says_more before nothing (link n f) h u w p = record {
   ends_well = tt;
   within_content = link_next n f p;
 }
-says_more before nothing (card e) h u w p = absurd (never _ p)
-says_more before nothing (crash e) h u w p = absurd (never _ p)
+says_more before nothing (card e) h u w p = cc
+says_more before nothing (crash e) h u w p = cc
 says_more before nothing (remark text) h u w p = record {
   whole = All-push Whole before (remark text) h.whole w;
   in_order = kept_none before text ∙ h.in_order;
   ends_well = tt;
   within_content = tt;
 }
-says_more before nothing end h u w p = absurd (never _ p)
-says_more before (under_way l) (link n f) h u w p = absurd (never _ p)
+says_more before nothing end h u w p = cc
+says_more before (under_way l) (link n f) h u w p = cc
 says_more before (under_way l) (card e) h u w p = record {
   whole = All-push Whole before (card e) h.whole w;
   in_order =
       kept_one before (card e) refl ∙ ap (λ xs. xs ++ card e ∷ []) h.in_order
-      ∙ ap (λ xs. link l.n l.f ∷ xs) (card_order l.cards l.crashes e (empty_since l.crashes (no_crashes l e p)));
+      ∙ ap (λ xs. link l.n l.f ∷ xs) (card_order l.cards l.crashes e (nil_from_length l.crashes (no_crashes l e p)));
   ends_well = tt;
   within_content = card_next l e h.within_content p;
 }
@@ -194,7 +183,7 @@ remark_before before text (under_way l) whole h = record {
   advances = refl;
 }
 remark_before before text (ended l) whole h =
-    absurd (both_ways (no_remark (remark text)) refl (ap no_remark (same_from_push before h.ends_well.0 (remark text) end h.ends_well.1).1))
+    let same : remark text ≡ end = (same_from_push before h.ends_well.0 (remark text) end h.ends_well.1).1 in cc
 
 pub says_less : (before : List Statement) (c : Statement) (s : Standing) → Says (before ++ c ∷ []) s → Whole c × Earlier before c s
 says_less before c s h =

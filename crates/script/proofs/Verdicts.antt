@@ -5,7 +5,7 @@ use Rattle.refusal.specs.declared.command.CommandFault.TheVariants.{Reader, NotA
 use Rattle.refusal.specs.declared.load.LoadFault.{LoadFault}
 use Rattle.refusal.specs.declared.load.Stopped.{Stopped}
 use Rattle.refusal.specs.declared.reader.ReaderFault.TheVariants.{NoCommand, Incomplete}
-use Rattle.script.specs.Admitted.{commands_of, Says, Admitted, Unended, Breaks, no_command, incomplete, misplaced, breaks_content, behind_end, StoppedAt, Refused}
+use Rattle.script.specs.Admitted.{Says, Admitted, Unended, Breaks, no_command, incomplete, misplaced, breaks_content, behind_end, StoppedAt, Refused}
 use Rattle.script.specs.Format.{Statement, bytes_of, Whole, script_of, Bytes}
 use Rattle.script.specs.Listing.{Listing}
 use Rattle.script.specs.Reading.{Reading, found, stopped, read_first}
@@ -16,6 +16,7 @@ use Rattle.script.proofs.Entries.{last_view, broken_first, first_is_broken}
 use Rattle.script.proofs.Order.{says_more, says_less}
 use Rattle.script.proofs.Places.{by_place}
 use Rattle.script.proofs.Reading.{sound, read_back, unknown_since, since_unknown, unfinished_since, since_unfinished}
+use Rattle.std.proofs.lemmas.Grind.{common_steps}
 use Rattle.std.proofs.lemmas.Bool.{cond-true, cond-false, cases_lt, le-leb, lt-leb}
 
 -- what a judgement rests on
@@ -35,7 +36,7 @@ refused_rule s bs c rest u w is (Content e) h = breaks_content e u c rest w is (
 module _ (s : Standing) (bs : List ℕ) (byte : Bytes bs) where
   command_goes : (c : Statement) (rest : List ℕ) (t : Standing) (d : Statement) (more : List ℕ) (o : Option CommandFault) → read_first bs ≡ found c rest
       → first_broken (rules s c) ≡ o → judge_command s c rest o ≡ goes t d more → Goes s bs t d more
-  command_goes c rest t d more (Some fault) r o e = let z : ◌≡◌ {A = ℕ} 0 1 = cc in absurd (omega arith)
+  command_goes c rest t d more (Some fault) r o e = cc
   command_goes c rest t d more None r o e =
       let same : c ≡ d = cc in
       let left : rest ≡ more = cc in
@@ -50,14 +51,14 @@ module _ (s : Standing) (bs : List ℕ) (byte : Bytes bs) where
 
   command_stops : (c : Statement) (rest : List ℕ) (fault : CommandFault) (o : Option CommandFault) → Unended s → read_first bs ≡ found c rest
       → first_broken (rules s c) ≡ o → judge_command s c rest o ≡ stops fault → Breaks s bs fault
-  command_stops c rest fault None u r o e = let z : ◌≡◌ {A = ℕ} 0 1 = cc in absurd (omega arith)
+  command_stops c rest fault None u r o e = cc
   command_stops c rest fault (Some other) u r o e =
       let same : Some other ≡ Some fault = cc in
       let here = sound bs byte c rest r in
       refused_rule s bs c rest u here.1 here.0 fault (o ∙ same)
 
   reading_goes : (t : Standing) (d : Statement) (more : List ℕ) (r : Reading) → read_first bs ≡ r → judge_reading s r ≡ goes t d more → Goes s bs t d more
-  reading_goes t d more (stopped e) r is = let z : ◌≡◌ {A = ℕ} 0 1 = cc in absurd (omega arith)
+  reading_goes t d more (stopped e) r is = cc
   reading_goes t d more (found c rest) r is = command_goes c rest t d more (first_broken (rules s c)) r refl is
 
   reading_stops : (fault : CommandFault) (r : Reading) → Unended s → read_first bs ≡ r → judge_reading s r ≡ stops fault → Breaks s bs fault
@@ -108,18 +109,14 @@ walk_ends k l place count bs = refl
 
 -- the bytes of one command more
 script_of_push : (before : List Statement) (c : Statement) → script_of (before ++ c ∷ []) ≡ script_of before ++ bytes_of c
-script_of_push [] c = append-nil (bytes_of c)
-script_of_push (b ∷ before) c = ap (λ xs. bytes_of b ++ xs) (script_of_push before c) ∙ sym (append_assoc (bytes_of b) (script_of before) (bytes_of c))
+script_of_push [] c = grind (arith, common_steps)
+script_of_push (b ∷ before) c = grind (arith, common_steps, script_of_push before c)
 
 length_more : (before : List Statement) (c : Statement) → length (script_of (before ++ c ∷ [])) ≡ length (script_of before) + length (bytes_of c)
 length_more before c = ap length (script_of_push before c) ∙ length-append (script_of before) (bytes_of c)
 
 pub not_empty : (c : Statement) → 1 ≤ length (bytes_of c)
-not_empty (Statement.link n f) = omega arith
-not_empty (Statement.card e) = omega arith
-not_empty (Statement.crash e) = omega arith
-not_empty (Statement.remark text) = omega arith
-not_empty Statement.end = omega arith
+not_empty c = grind arith
 
 bytes_behind : (before rest : List ℕ) → Bytes (before ++ rest) → Bytes rest
 bytes_behind before rest byte i = subst (λ b. b < 256) (get_or-append-add before rest i 0) (byte (length before + i))
@@ -203,8 +200,8 @@ record Over (k : ℕ) (before : List Statement) (s : Standing) (rest : List ℕ)
 
 over_none : (s : Standing) → Says [] s → (rest : List ℕ) (k : ℕ) → length rest < k → Over k [] s rest
 over_none nothing h rest k few = record { left = k; few = few; arrives = refl }
-over_none (under_way l) h rest k few = let z : ◌≡◌ {A = ℕ} 0 (length (commands_of (under_way l))) = ap length h.in_order in absurd (omega arith)
-over_none (ended l) h rest k few = let z : ◌≡◌ {A = ℕ} 0 (length (commands_of (ended l))) = ap length h.in_order in absurd (omega arith)
+over_none (under_way l) h rest k few = cc
+over_none (ended l) h rest k few = cc
 
 over_step : (k : ℕ) (front : List Statement) (c : Statement) (t s : Standing) (rest : List ℕ) → Whole c → Unended t → Passes t c → advance t c ≡ s
     → Over k front t (bytes_of c ++ rest) → Over k (front ++ c ∷ []) s rest

@@ -1,7 +1,6 @@
 -- What the loader holds of the commands that it has read.
 use Rattle.std.specs.Prelude.{◌≡◌, ℕ, ◌+◌, ◌<◌, ◌≤◌, true, false, List, [], ◌∷◌, length, drop, Some, None, Ok, Err, Option, Result, slice_index_or}
 use Rattle.joining.specs.Card.{StartCard}
-use Rattle.joining.specs.declared.region.Region.{Region}
 use Rattle.refusal.specs.declared.command.CommandFault.{CommandFault}
 use Rattle.refusal.specs.declared.command.CommandFault.TheVariants.{Content}
 use Rattle.refusal.specs.declared.content.ContentFault.{ContentFault}
@@ -11,7 +10,7 @@ use Rattle.refusal.specs.declared.load.Stopped.{Stopped}
 use Rattle.script.specs.Admitted.{WithinContent}
 use Rattle.script.specs.Fates.{fates}
 use Rattle.script.specs.Format.{Statement, bytes_of}
-use Rattle.script.specs.Listing.{Listing, CardFor, card_for, region_for, listed_fate}
+use Rattle.script.specs.Listing.{Listing, CardFor, card_for, listed_fate}
 use Rattle.script.specs.Rules.{Standing, nothing, under_way, ended, readable, rules, first_broken, advance}
 use Rattle.script.specs.Verdict.{accepted, refused, stops, goes, judge, verdict}
 use Rattle.script.specs.declared.command.CardEntry.{CardEntry}
@@ -20,11 +19,6 @@ use Rattle.script.specs.declared.loader.Progress.{Progress}
 use Rattle.script.specs.declared.plan.Phase.{Phase}
 use Rattle.script.specs.declared.plan.Phase.TheVariants.{Opening, Cards, Crashes, Ended}
 use Rattle.script.specs.declared.plan.Plan.{Plan}
-
--- the letter's region, or there is none
-abbrev pub RegionRead : CardEntry → Result Region ContentFault → Type 0
-RegionRead e (Ok region) = region_for e.letter ≡ Some region
-RegionRead e (Err fault) = (region_for e.letter ≡ None) × (fault ≡ CardOutOfRange e.console)
 
 -- the card that the entry describes, or it describes none
 abbrev pub CardRead : CardEntry → Result StartCard ContentFault → Type 0
@@ -72,7 +66,6 @@ pub record Holds (p : Plan) (s : Standing) : Type 0 where
   pub places : length p.cards ≡ 16
   pub fate : (c : ℕ) → fates p.table.entries c ≡ listed_fate (crashes_of s) c
   pub entries : length p.table.entries ≡ 16
-  pub losses : p.losses ≡ length (crashes_of s)
   pub content : WithinContent s
 
 -- what becomes of a plan by one command: it breaks no rule and is added, or it is refused by the first rule that it breaks

@@ -6,13 +6,15 @@ ghost use Rattle.script.specs.Rules.{Standing, nothing, under_way};
 ghost use Rattle.std.specs.Prelude.{◌≡◌, ◌<◌, length, OnOk};
 
 use crate::command::{CardEntry, Command, CrashEntry};
-use crate::dealing::card_of;
 use crate::plan::{Phase, Plan};
 use crate::scripted::smallest;
 use crate::table::{Loss, Table};
 use carrier::{ConsoleSet, Sizes};
+use joining::Card;
 use refusal::{CommandFault, ContentFault};
 
+// Each promise here is about any listing that the plan holds. That is no invariant of the plan, which keeps no order of
+// the cards and so does not tell the listing.
 impl Plan {
     pub(crate) fn opening() -> Plan
         ensures { Holds result nothing }
@@ -22,7 +24,6 @@ impl Plan {
             sizes: smallest(),
             cards: [None; 16],
             table: Table::empty(),
-            losses: 0,
         }
     }
 
@@ -47,7 +48,7 @@ impl Plan {
         if self.cards[console as usize].is_some() {
             return Err(ContentFault::SecondCard { console });
         }
-        let card = card_of(entry)?;
+        let card = Card::try_from(entry)?;
         let mut cards = self.cards;
         cards[console as usize] = Some(card);
         Ok(Plan { cards, ..self })
@@ -56,7 +57,7 @@ impl Plan {
     // Whether a crash may be listed.
     fn check(&self, entry: CrashEntry) -> Result<(), ContentFault>
         ensures rules { (l : Listing) → Holds self.now (under_way l) → Checks (under_way l) (crash entry) result }
-        ensures room { OnOk result ((entry.console < self.now.sizes.n) × (self.now.losses < self.now.sizes.f)) }
+        ensures room { OnOk result (entry.console < self.now.sizes.n) }
     {
         let CrashEntry {
             round,
@@ -75,7 +76,7 @@ impl Plan {
         if self.table.entry(console).round.is_some() {
             return Err(ContentFault::SecondCrash { console, round });
         }
-        if self.losses >= self.sizes.losses() {
+        if self.table.losses() >= self.sizes.losses() as usize {
             return Err(ContentFault::TooManyCrashes { console, round });
         }
         Ok(())
@@ -96,7 +97,6 @@ impl Plan {
         Ok(Plan {
             phase: Phase::Crashes,
             table,
-            losses: self.losses + 1,
             ..self
         })
     }
@@ -105,12 +105,7 @@ impl Plan {
     fn uncarded(&self) -> Option<u8>
         ensures { (l : Listing) → Holds self.now (under_way l) → result ≡ uncarded l.n l.cards }
     {
-        for console in 0..self.sizes.consoles() {
-            if self.cards[console as usize].is_none() {
-                return Some(console);
-            }
-        }
-        None
+        (0..self.sizes.consoles()).find(|&console| self.cards[console as usize].is_none())
     }
 
     fn finish(self) -> Result<Plan, ContentFault>
@@ -125,6 +120,8 @@ impl Plan {
         }
     }
 
+    // Which command may come is told by the phase, in one place. What each of them adds has a promise of its own, which
+    // a table of closures would hide.
     pub(crate) fn admit(self, command: Command) -> Result<Plan, CommandFault>
         ensures { (s : Standing) → Holds self s → Admits s (said command.entry) result }
     {

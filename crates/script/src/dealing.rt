@@ -1,36 +1,39 @@
 // From the operands of a CARD to a start card.
-ghost use Rattle.script.specs.Plans.{RegionRead, CardRead};
+ghost use Rattle.script.specs.Listing.{region_for};
+ghost use Rattle.script.specs.Plans.{CardRead};
+ghost use Rattle.std.specs.Prelude.{◌≡◌};
 
 use crate::command::CardEntry;
 use joining::{Card, Delay, Modes, Region, Seed};
 use refusal::ContentFault;
 
-fn region_of(entry: CardEntry) -> Result<Region, ContentFault>
-    ensures { RegionRead entry result }
+fn region_of(letter: u8) -> Option<Region>
+    ensures { result ≡ region_for letter }
 {
-    match char::from(entry.letter) {
-        'E' => Ok(Region::Fifty),
-        'J' | 'U' => Ok(Region::Sixty),
-        ' ' => Ok(Region::Unmarked),
-        _ => Err(ContentFault::CardOutOfRange {
-            console: entry.console,
-        }),
+    match char::from(letter) {
+        'E' => Some(Region::Fifty),
+        'J' | 'U' => Some(Region::Sixty),
+        ' ' => Some(Region::Unmarked),
+        _ => None,
     }
 }
 
-pub(crate) fn card_of(entry: CardEntry) -> Result<Card, ContentFault>
-    ensures { CardRead entry result }
-{
-    let region = region_of(entry)?;
-    if entry.delay > 15 {
-        return Err(ContentFault::CardOutOfRange {
-            console: entry.console,
-        });
+impl TryFrom<CardEntry> for Card {
+    type Error = ContentFault;
+
+    ghost try_from_gives = { CardRead };
+
+    fn try_from(entry: CardEntry) -> Result<Card, ContentFault> {
+        let console = entry.console;
+        let region = region_of(entry.letter).ok_or(ContentFault::CardOutOfRange { console })?;
+        if entry.delay > 15 {
+            return Err(ContentFault::CardOutOfRange { console });
+        }
+        Ok(Card::new(
+            region,
+            Delay::from_frames(entry.delay),
+            Modes::new(entry.modes),
+            Seed::new(entry.seed),
+        ))
     }
-    Ok(Card::new(
-        region,
-        Delay::from_frames(entry.delay),
-        Modes::new(entry.modes),
-        Seed::new(entry.seed),
-    ))
 }

@@ -3,7 +3,7 @@ ghost use Rattle.script.specs.Loading.{Loads};
 ghost use Rattle.script.specs.Plans.{Holds, Judges, Steps, ReadsAll, Filled};
 ghost use Rattle.script.specs.Rules.{Standing};
 ghost use Rattle.script.specs.Verdict.{JudgedAsDeclared};
-ghost use Rattle.std.specs.Prelude.{◌≡◌, ◌<◌, ◌≤◌, length, Ok, Err};
+ghost use Rattle.std.specs.Prelude.{◌≡◌, ◌<◌, ◌≤◌, length, MatchResult};
 
 use crate::plan::{Phase, Plan};
 use crate::reader::read;
@@ -31,6 +31,7 @@ struct Progress {
 }
 
 // One command: by the reader, and then by its place and its content.
+#[tactic(auto, using(crate::proofs::Reading::refused_reading), unfolding(crate::specs::Verdict::judge))]
 fn judge(script: &[u8], at: Progress) -> Result<Progress, CommandFault>
     requires { at.count ≤ 4096 }
     ensures { (s : Standing) → Holds at.plan s → Judges s script.now at result }
@@ -48,14 +49,11 @@ fn step(script: &[u8], at: Progress) -> Result<Progress, Stopped>
     requires { at.count ≤ 4096 }
     ensures { (s : Standing) → Holds at.plan s → Steps s script.now at result }
 {
-    match judge(script, at) {
-        Ok(next) => Ok(next),
-        Err(fault) => Err(Stopped {
-            fault,
-            place: at.place,
-            count: at.count,
-        }),
-    }
+    judge(script, at).map_err(|fault| Stopped {
+        fault,
+        place: at.place,
+        count: at.count,
+    })
 }
 
 // Command after command up to END, behind which nothing may stand.
@@ -82,7 +80,7 @@ fn read_all(script: &[u8]) -> Result<Progress, Stopped>
 }
 
 fn long_enough(cards: &[Card], sizes: Sizes) -> Result<(), ListFault>
-    ensures { elim result [ Ok u ↦ sizes.n ≤ length cards.now | Err fault ↦ length cards.now < sizes.n ] }
+    ensures { MatchResult result (λ u. sizes.n ≤ length cards.now) (λ fault. length cards.now < sizes.n) }
 {
     if cards.len() < sizes.consoles() as usize {
         return Err(ListFault::TooShort);
@@ -90,19 +88,21 @@ fn long_enough(cards: &[Card], sizes: Sizes) -> Result<(), ListFault>
     Ok(())
 }
 
-fn deal_out(dealt: &[Option<Card>; 16], n: u8, cards: &mut [Card])
-    requires few { n ≤ 16 }
-    requires long { n ≤ length cards.old }
-    ensures { Filled dealt.now n cards.old cards.new }
+// By place and not by `zip`: what is written through such a pair is not known behind the loop.
+fn deal_out(dealt: &[Option<Card>; 16], sizes: Sizes, cards: &mut [Card])
+    requires { sizes.n ≤ length cards.old }
+    ensures { Filled dealt.now sizes.n cards.old cards.new }
 {
-    for console in 0..n {
-        if let Some(card) = dealt[console as usize] {
-            cards[console as usize] = card;
+    let n = sizes.consoles() as usize;
+    for (console, card) in dealt[..n].iter().enumerate() {
+        if let Some(card) = card {
+            cards[console] = *card;
         }
     }
 }
 
 // Fills the carrier and the first n cards from a script, or refuses and leaves both as they were.
+#[tactic(auto, using(crate::proofs::Verdicts::judged_as_declared, crate::proofs::Verdicts::too_long))]
 pub fn load(script: &[u8], carrier: &mut Scripted, cards: &mut [Card]) -> Result<Loaded, LoadFault>
     ensures loads { Loads script.now carrier.old cards.old result carrier.new cards.new }
     ensures verdicts { JudgedAsDeclared }
@@ -114,7 +114,7 @@ pub fn load(script: &[u8], carrier: &mut Scripted, cards: &mut [Card]) -> Result
     let Plan { sizes, table, .. } = read.plan;
     long_enough(cards, sizes)?;
     *carrier = Scripted { sizes, table };
-    deal_out(&read.plan.cards, sizes.consoles(), cards);
+    deal_out(&read.plan.cards, sizes, cards);
     Ok(Loaded {
         sizes,
         commands: read.count,

@@ -12,13 +12,12 @@ pub(crate) enum Phase {
     Ended,
 }
 
-// Before LINK the sizes say nothing, and there is no card and no loss.
+// Before LINK the sizes say nothing, and there is no card and no loss. The cards and the table both go by the console,
+// and stand apart, since the carrier takes the table whole and the cards go into the caller's list.
 #[derive(Clone, Copy)]
 pub(crate) struct Plan {
     pub(crate) phase: Phase,
     pub(crate) sizes: Sizes,
     pub(crate) cards: [Option<Card>; 16],
     pub(crate) table: Table,
-    // how many consoles the table loses
-    pub(crate) losses: u8,
 }

@@ -6,7 +6,9 @@ use crate::command::{CardEntry, Command, CrashEntry, Found};
 use carrier::ConsoleSet;
 use refusal::ReaderFault;
 
-fn link<'a>(bytes: &'a [u8]) -> Result<(Command<'a>, &'a [u8]), ReaderFault>
+// This function and the three behind it ask for the first byte that `first` has seen: one match with all the operands
+// would be past fifty lines, and each of the four facts is another.
+fn link(bytes: &[u8]) -> Result<(Command<'_>, &[u8]), ReaderFault>
     requires { slice_index bytes.now 0 ≡ 0x4C }
     ensures { FirstOf (link_from bytes.now) result }
 {
@@ -16,7 +18,7 @@ fn link<'a>(bytes: &'a [u8]) -> Result<(Command<'a>, &'a [u8]), ReaderFault>
     Ok((Command::Link { n: *n, f: *f }, rest))
 }
 
-fn card<'a>(bytes: &'a [u8]) -> Result<(Command<'a>, &'a [u8]), ReaderFault>
+fn card(bytes: &[u8]) -> Result<(Command<'_>, &[u8]), ReaderFault>
     requires { slice_index bytes.now 0 ≡ 0x50 }
     ensures { FirstOf (card_from bytes.now) result }
 {
@@ -46,7 +48,7 @@ fn card<'a>(bytes: &'a [u8]) -> Result<(Command<'a>, &'a [u8]), ReaderFault>
     Ok((Command::Card(card), rest))
 }
 
-fn crash<'a>(bytes: &'a [u8]) -> Result<(Command<'a>, &'a [u8]), ReaderFault>
+fn crash(bytes: &[u8]) -> Result<(Command<'_>, &[u8]), ReaderFault>
     requires { slice_index bytes.now 0 ≡ 0x43 }
     ensures { FirstOf (crash_from bytes.now) result }
 {
@@ -61,7 +63,7 @@ fn crash<'a>(bytes: &'a [u8]) -> Result<(Command<'a>, &'a [u8]), ReaderFault>
     Ok((Command::Crash(crash), rest))
 }
 
-fn remark<'a>(bytes: &'a [u8]) -> Result<(Command<'a>, &'a [u8]), ReaderFault>
+fn remark(bytes: &[u8]) -> Result<(Command<'_>, &[u8]), ReaderFault>
     requires { slice_index bytes.now 0 ≡ 0x52 }
     ensures { FirstOf (remark_from bytes.now) result }
 {
@@ -71,8 +73,10 @@ fn remark<'a>(bytes: &'a [u8]) -> Result<(Command<'a>, &'a [u8]), ReaderFault>
     Ok((Command::Remark(&bytes[1..9]), rest))
 }
 
-// The command that the bytes begin with, and what is left behind it.
-fn first<'a>(bytes: &'a [u8]) -> Result<(Command<'a>, &'a [u8]), ReaderFault>
+// The command that the bytes begin with, and what is left behind it. A match in place: the byte decides which operands
+// there are, so closures for them would have no common argument but the bytes again.
+#[tactic(auto, using(crate::proofs::Reading::end_read))]
+fn first(bytes: &[u8]) -> Result<(Command<'_>, &[u8]), ReaderFault>
     ensures { FirstOf (read_first bytes.now) result }
 {
     match bytes {
@@ -87,7 +91,8 @@ fn first<'a>(bytes: &'a [u8]) -> Result<(Command<'a>, &'a [u8]), ReaderFault>
 }
 
 // The command at a place, which may be any number.
-pub fn read<'a>(script: &'a [u8], place: usize) -> Result<Found<'a>, ReaderFault>
+#[tactic(auto, using(crate::proofs::Reading::read_back_anywhere))]
+pub fn read(script: &[u8], place: usize) -> Result<Found<'_>, ReaderFault>
     ensures stands { ReadAt script.now place result }
     ensures read_back { ReadBack }
 {
@@ -103,7 +108,7 @@ pub fn read<'a>(script: &'a [u8], place: usize) -> Result<Found<'a>, ReaderFault
 }
 
 // The command that matters at a place: the one there, or behind a remark the one that matters nine bytes on.
-pub fn matters<'a>(script: &'a [u8], place: usize) -> Result<Found<'a>, ReaderFault>
+pub fn matters(script: &[u8], place: usize) -> Result<Found<'_>, ReaderFault>
     ensures { Matters script.now place result }
 {
     let found = read(script, place)?;

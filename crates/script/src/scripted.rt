@@ -17,6 +17,7 @@ pub struct Scripted {
 
 impl Scripted {
     // One console, which is not lost.
+    #[tactic(auto, using(crate::specs::Legal::empty_quiet))]
     pub fn new() -> Scripted
         ensures begins { (result.sizes.n ≡ 1) × (result.sizes.f ≡ 0) × (result.table.entries ≡ replicate 16 no_loss) }
         ensures pattern { losing result.sizes.n result.sizes.f (fates result.table.entries) ≡ quiet 1 0 }
@@ -32,8 +33,8 @@ impl Scripted {
 pub(crate) fn smallest() -> Sizes
     ensures { (result.n ≡ 1) × (result.f ≡ 0) }
 {
-    match Sizes::new(1, 0) {
-        Ok(sizes) => sizes,
-        Err(_) => unreachable(),
-    }
+    let Ok(sizes) = Sizes::new(1, 0) else {
+        unreachable!()
+    };
+    sizes
 }

@@ -10,13 +10,14 @@ use crate::scripted::Scripted;
 use crate::table::Table;
 use carrier::{Carrier, ConsoleSet, Sizes};
 
-// Who of n consoles is up after the round.
-fn staying(table: &Table, n: u8, round: u8) -> ConsoleSet
-    requires { n ≤ 16 }
-    ensures { result.bits ≡ those n (λ c. up_after round (fates table.now.entries c)) }
+// Who of the ring is up after the round. A `for`, since the console's own number is asked about and put in: with `filter`
+// and `fold` the proof would be longer than the loop.
+#[tactic(auto, unfolding(carrier::specs::Sets::those))]
+fn staying(table: &Table, sizes: Sizes, round: u8) -> ConsoleSet
+    ensures { result.bits ≡ those sizes.n (λ c. up_after round (fates table.now.entries c)) }
 {
     let mut up = ConsoleSet::empty();
-    for console in 0..n {
+    for console in 0..sizes.consoles() {
         if table.entry(console).up_after(round) {
             up = up.with(console);
         }
@@ -34,15 +35,14 @@ impl Carrier for Scripted {
     }
 
     fn up(&self, round: u8) -> ConsoleSet {
-        staying(&self.table, self.sizes.consoles(), round)
+        staying(&self.table, self.sizes, round)
     }
 
     fn heard(&self, round: u8, sender: u8) -> ConsoleSet {
-        let n = self.sizes.consoles();
-        if round == 0 || sender >= n {
+        if round == 0 || sender >= self.sizes.consoles() {
             ConsoleSet::empty()
         } else {
-            self.table.entry(sender).heard_in(n, round)
+            self.table.entry(sender).heard_in(self.sizes, round)
         }
     }
 }

@@ -1,11 +1,12 @@
 // What becomes of each console of a scripted ring.
 ghost use Rattle.carrier.specs.Losses.{up_after, heard_in};
 ghost use Rattle.script.specs.Fates.{no_loss, fate_of};
-ghost use Rattle.std.specs.Prelude.{◌≡◌, ◌<◌, ◌≤◌, replicate, slice_index_or, slice_set};
+ghost use Rattle.std.specs.Prelude.{◌≡◌, ◌<◌, replicate, is_some, count_by, slice_index_or, slice_set};
 
-use carrier::ConsoleSet;
+use carrier::{ConsoleSet, Sizes};
 
-// What becomes of one console: the round in which it is lost, if it is, and who hears it then.
+// What becomes of one console: the round in which it is lost, if it is, and who hears it then. A whole struct for each
+// console, with nobody for the hearers of one that stays: the table is sixteen of them in fixed memory.
 #[derive(Clone, Copy)]
 pub struct Loss {
     pub round: Option<u8>,
@@ -26,21 +27,17 @@ impl Loss {
     pub(crate) fn up_after(self, round: u8) -> bool
         ensures { result ≡ up_after round (fate_of self) }
     {
-        match self.round {
-            Some(lost) => round < lost,
-            None => true,
-        }
+        self.round.is_none_or(|lost| round < lost)
     }
 
-    // Who of n consoles hears it in the round, from 1.
-    pub(crate) fn heard_in(self, n: u8, round: u8) -> ConsoleSet
-        requires { n ≤ 16 }
-        ensures { result.bits ≡ heard_in n round (fate_of self) }
+    // Who of the ring hears it in the round, from 1.
+    pub(crate) fn heard_in(self, sizes: Sizes, round: u8) -> ConsoleSet
+        ensures { result.bits ≡ heard_in sizes.n round (fate_of self) }
     {
         match self.round {
             Some(lost) if round == lost => self.hearers,
             Some(lost) if round > lost => ConsoleSet::empty(),
-            _ => ConsoleSet::all_of(n),
+            _ => ConsoleSet::all_of(sizes.consoles()),
         }
     }
 }
@@ -71,9 +68,19 @@ impl Table {
     pub(crate) fn entry(&self, console: u8) -> Loss
         ensures { result ≡ slice_index_or self.now.entries console no_loss }
     {
-        match self.entries.get(console as usize) {
-            Some(loss) => *loss,
-            None => Loss::none(),
-        }
+        self.entries
+            .get(console as usize)
+            .copied()
+            .unwrap_or_else(Loss::none)
+    }
+
+    // How many consoles are lost.
+    pub(crate) fn losses(&self) -> usize
+        ensures { result ≡ count_by (λ loss. is_some loss.round) self.now.entries }
+    {
+        self.entries
+            .iter()
+            .filter(|loss| loss.round.is_some())
+            .count()
     }
 }

@@ -1,38 +1,24 @@
-use Rattle.std.proofs.Common.{◌≡◌, ℕ, ◌+◌, ◌<◌, Bool, true, false, sym, ap, ◌∙◌, subst, inl, inr, ⊎_elim, arith}
+use Rattle.std.proofs.Common.{◌≡◌, ℕ, ◌+◌, ◌*◌, ◌^◌, ◌<◌, Bool, true, false, cond, sym, ap, ◌∙◌, add-one, arith}
 use Rattle.carrier.specs.Losses.{up_after}
-use Rattle.carrier.specs.Sets.{Member, Added, those}
-use Rattle.carrier.specs.SetsLemmas.{same_members, those_members}
-use Rattle.std.proofs.lemmas.Bool.{cases_lt, both_ways}
+use Rattle.carrier.specs.Sets.{Added, those}
+use Rattle.carrier.specs.SetsLemmas.{those_below}
+use Rattle.std.proofs.lemmas.Bool.Decides.{nat_tests}
+use Rattle.std.proofs.lemmas.Nat.{or_comm, or_shifted}
 use Rattle.script.specs.Fates.{fates, fate_of}
 use Rattle.script.proofs.scripted_carrier.staying.Goals as goal
 use Rattle.script.proofs.scripted_carrier.staying.Goals.{then-up_after, else-up_after}
 
--- one console more, which passes the test
+-- one console more
+those_more : (n : ℕ) (test : ℕ → Bool) → those (n + 1) test ≡ those n test + cond (test n) (2 ^ n) 0
+unfolding those
+those_more n test = ap (λ k. those k test) (add-one n)
+
 those_with : (n : ℕ) (test : ℕ → Bool) (s r : ℕ) → n < 16 → s ≡ those n test → test n ≡ true → Added s n r → r ≡ those (n + 1) test
 those_with n test s r few same passes added =
-    same_members _ _ added.members (those_members (n + 1) test)
-    (λ c m. ⊎_elim
-    (λ old. let was = (those_members n test c).0 (subst (Member c) same old) in (omega (arith, was.0), was.1))
-    (λ newest. (omega (arith, newest.0), subst (λ x. test x ≡ true) (sym newest.0) passes))
-    m)
-    (λ c m. ⊎_elim
-    (λ lt. inl (subst (Member c) (sym same) ((those_members n test c).1 (lt, m.1))))
-    (λ ge. inr (omega (arith, m.0), omega (arith, m.0)))
-    (cases_lt c n))
+    let joined = or_shifted 1 n (those n test) (those_below n test) in grind (arith, nat_tests, those_more n test, added.number, or_comm s (1 * 2 ^ n))
 
--- one console more, which does not
 those_without : (n : ℕ) (test : ℕ → Bool) → test n ≡ false → those n test ≡ those (n + 1) test
-those_without n test fails =
-    same_members _ _ (those_members n test) (those_members (n + 1) test)
-    (λ c m. (omega (arith, m.0), m.1))
-    (λ c m. (
-      ⊎_elim (λ lt. lt) (λ ge. let e : c ≡ n = omega (arith, m.0) in absurd (both_ways _ fails (subst (λ x. test x ≡ true) e m.1))) (cases_lt c n),
-      m.1,
-    ))
-
-pub loop-console-init : goal.loop-console-init
-unfolding those
-loop-console-init c = c.empty-up.ensures.number
+those_without n test fails = grind (arith, nat_tests, those_more n test)
 
 pub loop-console-preserved : goal.loop-console-preserved
 loop-console-preserved c =

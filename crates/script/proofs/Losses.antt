@@ -1,0 +1,61 @@
+-- How many consoles are lost: as many as crashes are listed.
+use Rattle.std.proofs.Common.{◌≡◌, ℕ, zero, suc, ◌<◌, ◌≤◌, false, cond, List, [], ◌∷◌, length, get_or, take, take_all, is_some, Some, None, Option, count_by, sym, refl, ap, ◌∙◌, add-one, arith}
+use Rattle.carrier.specs.Losses.{Fate, stays, lost}
+use Rattle.script.specs.Admitted.{NoTwo, Sound}
+use Rattle.script.specs.Fates.{no_loss, fates, one_if_lost, losses_below}
+use Rattle.script.specs.Listing.{Listing, crash_for, listed_fate}
+use Rattle.script.specs.Plans.{Holds}
+use Rattle.script.specs.Rules.{under_way}
+use Rattle.script.specs.declared.command.CrashEntry.{CrashEntry}
+use Rattle.script.specs.declared.plan.Plan.{Plan}
+use Rattle.script.specs.declared.table.Loss.{Loss}
+use Rattle.script.proofs.Entries.{others_absent}
+use Rattle.std.proofs.ByRecursion.{All-weaker}
+use Rattle.std.proofs.lemmas.Bool.Decides.{nat_tests}
+use Rattle.std.proofs.lemmas.List.Sums.{sum_by_more}
+use Rattle.std.specs.List.{AllByRecursion}
+
+pub none_since : {A : Type 0} (o : Option A) → is_some o ≡ false → o ≡ None
+none_since None h = refl
+none_since (Some x) h = cc
+
+-- an entry adds the console that it names, and no other
+before_it : (e : CrashEntry) (crashes : List CrashEntry) (n : ℕ) → n ≤ e.console → losses_below (listed_fate (e ∷ crashes)) n ≡ losses_below (listed_fate crashes) n
+before_it e crashes zero h = refl
+before_it e crashes (suc n) h = grind (arith, nat_tests, before_it e crashes n)
+
+one_more : (e : CrashEntry) (crashes : List CrashEntry) (n : ℕ) → e.console < n → crash_for e.console crashes ≡ None
+    → losses_below (listed_fate (e ∷ crashes)) n ≡ suc (losses_below (listed_fate crashes) n)
+one_more e crashes zero lt new = absurd (omega arith)
+one_more e crashes (suc n) lt new = grind (arith, nat_tests, before_it e crashes n, one_more e crashes n)
+
+lost_as_listed : (crashes : List CrashEntry) (n : ℕ) → NoTwo (λ e. e.console) crashes → AllByRecursion (λ e. e.console < n) crashes
+    → losses_below (listed_fate crashes) n ≡ length crashes
+lost_as_listed [] zero apart inside = refl
+lost_as_listed [] (suc n) apart inside = omega (arith, lost_as_listed [] n apart inside)
+lost_as_listed (e ∷ crashes) n apart inside = grind (arith, one_more e crashes n, others_absent (λ (d : CrashEntry). d.console) e.console crashes apart.0, lost_as_listed crashes n apart.1 inside.1)
+
+same_losses : (x y : ℕ → Fate) → ((c : ℕ) → x c ≡ y c) → (n : ℕ) → losses_below x n ≡ losses_below y n
+same_losses x y same zero = refl
+same_losses x y same (suc n) = omega (arith, same_losses x y same n, ap one_if_lost (same n))
+
+pub losses_listed : (p : Plan) (l : Listing) → Sound l → ((c : ℕ) → fates p.table.entries c ≡ listed_fate l.crashes c) → losses_below (fates p.table.entries) 16 ≡ length l.crashes
+losses_listed p l sound same =
+    same_losses (fates p.table.entries) (listed_fate l.crashes) same 16
+    ∙ lost_as_listed l.crashes 16 sound.one_crash_each (All-weaker _ _ (λ e lt. omega (arith, sound.sizes.1)) l.crashes sound.crashes_in_ring)
+
+-- the count that the code makes
+one_or_none : (o : Option ℕ) (hearers : ℕ) → one_if_lost (elim o [ None ↦ stays | Some round ↦ lost round hearers ]) ≡ cond (is_some o) 1 0
+one_or_none o hearers = grind arith
+
+counted : (entries : List Loss) (n : ℕ) → n ≤ length entries → count_by (λ loss. is_some loss.round) (take n entries) ≡ losses_below (fates entries) n
+counted entries zero h = refl
+counted entries (suc n) h =
+    let loss = get_or entries n no_loss in
+    rw (← add-one n)
+    (omega (arith, sum_by_more (λ (x : Loss). cond (is_some x.round) 1 0) entries n no_loss (omega arith), counted entries n (omega arith), one_or_none loss.round loss.hearers.bits))
+
+pub losses_counted : (p : Plan) (l : Listing) → Holds p (under_way l) → count_by (λ loss. is_some loss.round) p.table.entries ≡ length l.crashes
+losses_counted p l h =
+    let all = take_all 16 p.table.entries (omega (arith, h.entries)) in
+    ap (count_by (λ loss. is_some loss.round)) (sym all) ∙ counted p.table.entries 16 (omega (arith, h.entries)) ∙ losses_listed p l h.content h.fate
