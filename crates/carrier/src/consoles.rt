@@ -1,7 +1,7 @@
 // The consoles of a set one after another.
 ghost use Rattle.carrier.specs.Rising.{rising, still_to_come};
 ghost use Rattle.std.specs.Iterator.{YieldsFirst, item_count};
-ghost use Rattle.std.specs.Prelude.{◌≡◌};
+ghost use Rattle.std.specs.Prelude.{◌≡◌, ◌≤◌, length};
 
 use crate::set::ConsoleSet;
 
@@ -32,8 +32,9 @@ impl IntoIterator for ConsoleSet {
 
     type IntoIter = Consoles;
 
-    ghost into_iter_gives = { λ s c. still_to_come c ≡ rising s.bits };
+    ghost into_iter_gives = { λ s c. (still_to_come c ≡ rising s.bits) × (length (still_to_come c) ≤ 16) };
 
+    #[tactic(auto, using(crate::proofs::Rising::few_among))]
     fn into_iter(self) -> Consoles {
         Consoles {
             set: self,

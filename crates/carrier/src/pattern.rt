@@ -10,6 +10,7 @@ use crate::sizes::Sizes;
 pub trait Carrier {
     ghost pattern: { Self → Pattern };
 
+    // Each carrier answers from a field of its own, since a trait has none.
     fn sizes(&self) -> Sizes
         ensures { (result.n ≡ (pattern self.now).n) × (result.f ≡ (pattern self.now).f) };
 

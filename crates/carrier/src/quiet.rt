@@ -26,7 +26,7 @@ impl Quiet {
     }
 }
 
-// All of a ring.
+// All of a ring, as `up` has it: those who pass a test that all pass. `heard` has the set by its number.
 #[tactic(auto, using(crate::specs::Losing::quiet_up))]
 fn everyone(sizes: Sizes) -> ConsoleSet
     ensures { result.bits ≡ those sizes.n (λ c. true) }
@@ -47,6 +47,7 @@ impl Carrier for Quiet {
         everyone(self.sizes)
     }
 
+    // Every carrier begins with this test. It is one line, and two of the laws of `heard`, so it stands in each.
     fn heard(&self, round: u8, sender: u8) -> ConsoleSet {
         let n = self.sizes.consoles();
         if round == 0 || sender >= n {

@@ -10,7 +10,7 @@ pub struct ConsoleSet {
 }
 
 impl ConsoleSet {
-    // By name, and no `From`: the number alone does not say that its bits are consoles.
+    // Made and read by these names: `From` both ways would be a second way to do the same.
     pub fn from_number(number: u16) -> ConsoleSet
         ensures { result.bits ≡ number }
     {
@@ -105,7 +105,7 @@ impl ConsoleSet {
         self.number().count_ones() as u8
     }
 
-    // The lowest member from `start` on. Asked from 0 and then from one past each answer, it gives all members, rising.
+    // The lowest member from `start` on. All members, rising, come from a `for` over the set.
     pub fn lowest_from(self, start: u8) -> Option<u8>
         ensures { LowestFrom self.bits start result }
     {

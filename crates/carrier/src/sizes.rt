@@ -13,8 +13,8 @@ pub struct Sizes {
 }
 
 impl Sizes {
-    // What is promised here is promised again by each carrier that is made from n and f: numbers from outside, which only
-    // this check turns into a `Sizes`.
+    // `Quiet::new` and `Staggered::new` promise the same of what they make: n and f come from outside, and only this
+    // check turns them into a `Sizes`.
     pub fn new(n: u8, f: u8) -> Result<Sizes, ContentFault>
         ensures { MadeFrom n f (λ s. s.n) (λ s. s.f) result }
     {

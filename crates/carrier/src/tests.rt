@@ -63,6 +63,16 @@ fn sets_leave_out_what_is_no_console(rt: HostRuntime) {
     assert_eq!(rt; ConsoleSet::one(15).lowest_from(16), None);
 }
 
+#[test]
+fn a_set_gives_its_members_from_the_lowest_up(rt: HostRuntime) {
+    let mut consoles = ConsoleSet::from_number(0x8005).into_iter();
+    assert_eq!(rt; consoles.next(), Some(0));
+    assert_eq!(rt; consoles.next(), Some(2));
+    assert_eq!(rt; consoles.next(), Some(15));
+    assert_eq!(rt; consoles.next(), None);
+    assert_eq!(rt; ConsoleSet::empty().into_iter().count(), 0);
+}
+
 fn keeps_the_round_rule(rt: &impl Abort, ring: &impl Carrier) {
     let all = ConsoleSet::all_of(ring.sizes().consoles());
     let most_lost = ring.sizes().losses();

@@ -25,9 +25,9 @@ fn join_cards(rt: &impl Print) -> io::Result<()> {
         Modes::new(0x0007),
         Seed::new(7),
     );
-    println!(rt; "console 0: {}", ShownCard(first))?;
-    println!(rt; "console 1: {}", ShownCard(second))?;
-    println!(rt; "console 2: {}", ShownCard(third))?;
+    for (console, card) in [first, second, third].into_iter().enumerate() {
+        println!(rt; "console {console}: {}", ShownCard(card))?;
+    }
     let rising = first.join(second).join(third);
     let falling = third.join(second.join(first));
     println!(rt; "agreed, 0 with 1, then 2: {}", ShownCard(rising))?;
@@ -56,14 +56,12 @@ fn print_losses(
 }
 
 fn print_schedule(rt: &impl Print, ring: &impl Carrier) -> io::Result<()> {
-    let mut before = ring.up(0);
-    println!(rt; "before round 1: up {}", ShownSet(before))?;
+    println!(rt; "before round 1: up {}", ShownSet(ring.up(0)))?;
     for round in 1..=ring.sizes().losses() + 1 {
-        let after = ring.up(round);
-        print!(rt; "round {round}: up {}", ShownSet(after))?;
-        print_losses(rt, ring, round, before.difference(after))?;
+        let up = ring.up(round);
+        print!(rt; "round {round}: up {}", ShownSet(up))?;
+        print_losses(rt, ring, round, ring.up(round - 1).difference(up))?;
         println!(rt; "")?;
-        before = after;
     }
     Ok(())
 }

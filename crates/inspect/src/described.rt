@@ -24,22 +24,21 @@ fn print_lost(rt: &impl Print, ring: &impl Carrier, round: u8, lost: ConsoleSet)
     Ok(())
 }
 
-// The losses by rising round.
+// The losses by rising round. `demo` goes through the rounds too, and has something else to print at each of them.
 fn print_losses(rt: &impl Print, ring: &impl Carrier) -> io::Result<()> {
-    let first = ring.up(0);
-    let mut before = first;
-    for round in 1..=ring.sizes().losses() + 1 {
-        let after = ring.up(round);
-        print_lost(rt, ring, round, before.difference(after))?;
-        before = after;
+    let last = ring.sizes().losses() + 1;
+    for round in 1..=last {
+        let lost = ring.up(round - 1).difference(ring.up(round));
+        print_lost(rt, ring, round, lost)?;
     }
-    if before == first {
+    if ring.up(last) == ring.up(0) {
         println!(rt; "nobody is lost")?;
     }
     Ok(())
 }
 
-// How many of the first commands of a script are remarks.
+// How many of the first commands of a script are remarks. A `for` and no chain: where a command begins is known only
+// when the one before it is read.
 fn count_remarks(bytes: &[u8], commands: usize) -> usize
     ensures { result ≤ commands }
 {
@@ -57,6 +56,7 @@ fn count_remarks(bytes: &[u8], commands: usize) -> usize
     remarks
 }
 
+// The ring's cards are the first n of the sixteen, which a load fills in fixed memory.
 pub fn print(
     rt: &impl Print,
     bytes: &[u8],

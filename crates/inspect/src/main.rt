@@ -12,6 +12,7 @@ use std::io::Read;
 // One more than a script may have, so that a script that is too long is seen to be.
 const MOST_READ: usize = 4097;
 
+// What a load writes over. No `Default`, since no card is the one to begin with.
 fn blank_card() -> Card {
     Card::new(
         Region::Unmarked,

@@ -13,7 +13,7 @@ pub struct Modes {
 }
 
 impl Modes {
-    // By name, and no `From`: the number alone does not say that its bits are modes.
+    // Made and read by these names: `From` both ways would be a second way to do the same.
     pub fn new(set: u16) -> Modes
         ensures { result.set ≡ set }
     {

@@ -11,7 +11,8 @@ pub enum Layer {
     Session,
 }
 
-// What a refusal points at besides its number: nothing, or some of a console, a round and a number of rounds left.
+// What a refusal points at besides its number: nothing, or some of a console, a round and a number of rounds left. Not
+// an enum of the combinations: readers ask for one part at a time.
 #[derive(Clone, Copy, PartialEq, Eq, Debug, Default)]
 pub struct Names {
     pub console: Option<u8>,

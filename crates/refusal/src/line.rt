@@ -17,13 +17,14 @@ pub struct Line {
 
 impl Line {
     pub fn as_bytes(&self) -> &[u8]
-        ensures { result.now ≡ text_of self.now }
+        ensures text { result.now ≡ text_of self.now }
+        ensures fits { length result.now ≤ 96 }
     {
-        self.text.as_bytes()
+        self.text.as_str().as_bytes()
     }
 }
 
-// A line is printed at no width: blanks behind its end byte would begin another line.
+// Prints the line as it is. Width and fill are ignored: blanks behind the end byte would begin another line.
 impl fmt::Display for Line {
     ghost output = { λ l. Some (text_of l) };
 
@@ -32,7 +33,7 @@ impl fmt::Display for Line {
     }
 }
 
-// A name to push, and no `Display`: a text of fixed capacity takes a `&str` for certain, and a `write!` perhaps.
+// A name and no `Display`: where there is room `push_str` cannot fail, and `write!` would answer a `Result`.
 fn layer_name(layer: Layer) -> &'static str
     ensures name { result.now ≡ layer_name_lem layer }
     ensures size { length result.now ≤ 7 }

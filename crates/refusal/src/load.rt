@@ -61,8 +61,8 @@ impl LoadFault {
         }
     }
 
-    // Where the command that is refused begins. `count` has the same three arms: one function for the pair of both would
-    // leave each of them to take it apart again.
+    // Where the command that is refused begins. `count` has the same three arms: a function for both at once would
+    // answer an optional pair, which each of the two would take apart again.
     pub fn place(self) -> Option<usize>
         ensures { result ≡ load_place self }
     {

@@ -22,8 +22,8 @@ impl ReaderFault {
         }
     }
 
-    // One layer for all its faults, as a content fault and a list fault have: as a constant of a trait it would ask an
-    // import of each caller.
+    // `number`, `layer` and `names` of each enum are a table of its own cases: a trait over them all would join none of
+    // the tables, and each caller would import it.
     pub fn layer(self) -> Layer
         ensures { result ≡ reader_layer self }
     {

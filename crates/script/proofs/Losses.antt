@@ -1,8 +1,8 @@
 -- How many consoles are lost: as many as crashes are listed.
 use Rattle.std.proofs.Common.{◌≡◌, ℕ, zero, suc, ◌<◌, ◌≤◌, false, cond, List, [], ◌∷◌, length, get_or, take, take_all, is_some, Some, None, Option, count_by, sym, refl, ap, ◌∙◌, add-one, arith}
-use Rattle.carrier.specs.Losses.{Fate, stays, lost}
+use Rattle.carrier.specs.Losses.{Fate, stays, lost, loses}
 use Rattle.script.specs.Admitted.{NoTwo, Sound}
-use Rattle.script.specs.Fates.{no_loss, fates, one_if_lost, losses_below}
+use Rattle.script.specs.Fates.{no_loss, fates, losses_below}
 use Rattle.script.specs.Listing.{Listing, crash_for, listed_fate}
 use Rattle.script.specs.Plans.{Holds}
 use Rattle.script.specs.Rules.{under_way}
@@ -37,7 +37,7 @@ lost_as_listed (e ∷ crashes) n apart inside = grind (arith, one_more e crashes
 
 same_losses : (x y : ℕ → Fate) → ((c : ℕ) → x c ≡ y c) → (n : ℕ) → losses_below x n ≡ losses_below y n
 same_losses x y same zero = refl
-same_losses x y same (suc n) = omega (arith, same_losses x y same n, ap one_if_lost (same n))
+same_losses x y same (suc n) = omega (arith, same_losses x y same n, ap {B = ℕ} (λ x. cond (loses x) 1 0) (same n))
 
 pub losses_listed : (p : Plan) (l : Listing) → Sound l → ((c : ℕ) → fates p.table.entries c ≡ listed_fate l.crashes c) → losses_below (fates p.table.entries) 16 ≡ length l.crashes
 losses_listed p l sound same =
@@ -45,15 +45,16 @@ losses_listed p l sound same =
     ∙ lost_as_listed l.crashes 16 sound.one_crash_each (All-weaker _ _ (λ e lt. omega (arith, sound.sizes.1)) l.crashes sound.crashes_in_ring)
 
 -- the count that the code makes
-one_or_none : (o : Option ℕ) (hearers : ℕ) → one_if_lost (elim o [ None ↦ stays | Some round ↦ lost round hearers ]) ≡ cond (is_some o) 1 0
-one_or_none o hearers = grind arith
+lost_or_not : (o : Option ℕ) (hearers : ℕ) → loses (elim o [ None ↦ stays | Some round ↦ lost round hearers ]) ≡ is_some o
+lost_or_not None hearers = refl
+lost_or_not (Some round) hearers = refl
 
 counted : (entries : List Loss) (n : ℕ) → n ≤ length entries → count_by (λ loss. is_some loss.round) (take n entries) ≡ losses_below (fates entries) n
 counted entries zero h = refl
 counted entries (suc n) h =
     let loss = get_or entries n no_loss in
     rw (← add-one n)
-    (omega (arith, sum_by_more (λ (x : Loss). cond (is_some x.round) 1 0) entries n no_loss (omega arith), counted entries n (omega arith), one_or_none loss.round loss.hearers.bits))
+    (omega (arith, sum_by_more (λ (x : Loss). cond (is_some x.round) 1 0) entries n no_loss (omega arith), counted entries n (omega arith), ap {B = ℕ} (λ b. cond b 1 0) (lost_or_not loss.round loss.hearers.bits)))
 
 pub losses_counted : (p : Plan) (l : Listing) → Holds p (under_way l) → count_by (λ loss. is_some loss.round) p.table.entries ≡ length l.crashes
 losses_counted p l h =

@@ -1,7 +1,7 @@
 -- What a table of losses says becomes of each console, and which tables a ring may have.
-use Rattle.std.specs.Prelude.{ℕ, zero, suc, ◌+◌, ◌<◌, ◌≤◌, List, Some, None, slice_index_or}
-use Rattle.carrier.specs.Losses.{Fate, stays, lost}
-use Rattle.carrier.specs.Sets.{Member, nobody}
+use Rattle.std.specs.Prelude.{ℕ, ◌+◌, ◌<◌, ◌≤◌, List, Some, None, slice_index_or}
+use Rattle.carrier.specs.Losses.{Fate, stays, lost, loses}
+use Rattle.carrier.specs.Sets.{Member, nobody, tally}
 use Rattle.script.specs.declared.table.Loss.{Loss}
 
 -- the entry of a console that is not lost
@@ -16,15 +16,9 @@ fate_of loss = elim loss.round [ None ↦ stays | Some round ↦ lost round loss
 abbrev pub fates : List Loss → ℕ → Fate
 fates entries c = fate_of (slice_index_or entries c no_loss)
 
--- 1 where the console is lost, else 0
-abbrev pub one_if_lost : Fate → ℕ
-one_if_lost stays = 0
-one_if_lost (lost round hearers) = 1
-
 -- how many of the consoles below n are lost
 abbrev pub losses_below : (ℕ → Fate) → ℕ → ℕ
-losses_below fate zero = 0
-losses_below fate (suc c) = losses_below fate c + one_if_lost (fate c)
+losses_below fate n = tally n (λ c. loses (fate c))
 
 -- on a ring of n that may lose f: a console is lost in one of the rounds 1 to f + 1, and only consoles of the ring hear it then
 abbrev pub WithinRing : ℕ → ℕ → Fate → Type 0

@@ -9,19 +9,10 @@ use Rattle.std.proofs.Math.Bridge.{le_prop}
 use Rattle.std.proofs.lemmas.Bool.{cases_lt}
 use Rattle.carrier.specs.Losses.{Fate, stays, lost, loses, losing, quiet}
 use Rattle.carrier.specs.Pattern.{RoundRule}
-use Rattle.carrier.specs.Sets.{tally}
 use Rattle.carrier.specs.Sizes.{InRange}
 use Rattle.carrier.specs.Losing.{Sound, losing_obeys}
 use Rattle.script.specs.declared.table.Loss.{Loss}
-use Rattle.script.specs.Fates.{no_loss, fate_of, fates, one_if_lost, losses_below, WithinRing, Legal}
-
-one_for_a_loss : (x : Fate) → cond (loses x) 1 0 ≡ one_if_lost x
-one_for_a_loss stays = refl
-one_for_a_loss (lost round hearers) = refl
-
-tally_is_losses : (n : ℕ) (fate : ℕ → Fate) → tally n (λ c. loses (fate c)) ≡ losses_below fate n
-tally_is_losses zero fate = refl
-tally_is_losses (suc n) fate = omega (arith, tally_is_losses n fate, one_for_a_loss (fate n))
+use Rattle.script.specs.Fates.{no_loss, fate_of, fates, losses_below, WithinRing, Legal}
 
 losses_grow : (n k : ℕ) (fate : ℕ → Fate) → n ≤ k → losses_below fate n ≤ losses_below fate k
 losses_grow n zero fate h = let e : n ≡ 0 = omega arith in omega (arith, ap (losses_below fate) e)
@@ -38,7 +29,7 @@ sound_within n f (lost round hearers) h = (h.0, h.2)
 pub legal_obeys : (n f : ℕ) (entries : List Loss) → InRange n f → Legal n f entries → RoundRule (losing n f (fates entries))
 legal_obeys n f entries ranges legal =
     losing_obeys n f (fates entries) ranges
-    (omega (arith, tally_is_losses n (fates entries), losses_grow n 16 (fates entries) ranges.1, legal.few))
+    (omega (arith, losses_grow n 16 (fates entries) ranges.1, legal.few))
     (λ c h. sound_within n f (fates entries c) (legal.each c))
 
 within_ring_prop : (n f : ℕ) (x : Fate) → IsProp (WithinRing n f x)
@@ -64,7 +55,7 @@ nobody_lost entries e c =
 
 losses_none : (fate : ℕ → Fate) (n : ℕ) → ((c : ℕ) → fate c ≡ stays) → losses_below fate n ≡ 0
 losses_none fate zero none = refl
-losses_none fate (suc n) none = omega (arith, losses_none fate n none, ap one_if_lost (none n))
+losses_none fate (suc n) none = omega (arith, losses_none fate n none, ap {B = ℕ} (λ x. cond (loses x) 1 0) (none n))
 
 pub empty_legal : (n f : ℕ) (entries : List Loss) → entries ≡ replicate 16 no_loss → Legal n f entries
 empty_legal n f entries e = record {

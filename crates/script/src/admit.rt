@@ -13,8 +13,8 @@ use carrier::{ConsoleSet, Sizes};
 use joining::Card;
 use refusal::{CommandFault, ContentFault};
 
-// Each promise here is about any listing that the plan holds. That is no invariant of the plan, which keeps no order of
-// the cards and so does not tell the listing.
+// What these functions promise of a listing they promise of any that the plan holds. It is no invariant of the plan,
+// which keeps no order of the cards and so does not tell the listing.
 impl Plan {
     pub(crate) fn opening() -> Plan
         ensures { Holds result nothing }
@@ -76,7 +76,7 @@ impl Plan {
         if self.table.entry(console).round.is_some() {
             return Err(ContentFault::SecondCrash { console, round });
         }
-        if self.table.losses() >= self.sizes.losses() as usize {
+        if self.table.lost() >= self.sizes.losses() as usize {
             return Err(ContentFault::TooManyCrashes { console, round });
         }
         Ok(())

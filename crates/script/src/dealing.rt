@@ -7,6 +7,7 @@ use crate::command::CardEntry;
 use joining::{Card, Delay, Modes, Region, Seed};
 use refusal::ContentFault;
 
+// A function, since neither the letter's type nor the region's is of this crate, as a conversion by trait asks.
 fn region_of(letter: u8) -> Option<Region>
     ensures { result ≡ region_for letter }
 {
@@ -24,10 +25,12 @@ impl TryFrom<CardEntry> for Card {
     ghost try_from_gives = { CardRead };
 
     fn try_from(entry: CardEntry) -> Result<Card, ContentFault> {
-        let console = entry.console;
-        let region = region_of(entry.letter).ok_or(ContentFault::CardOutOfRange { console })?;
+        let refused = ContentFault::CardOutOfRange {
+            console: entry.console,
+        };
+        let region = region_of(entry.letter).ok_or(refused)?;
         if entry.delay > 15 {
-            return Err(ContentFault::CardOutOfRange { console });
+            return Err(refused);
         }
         Ok(Card::new(
             region,

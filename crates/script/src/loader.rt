@@ -30,6 +30,19 @@ struct Progress {
     count: usize,
 }
 
+impl Progress {
+    // What the load stops with, where it has come so far.
+    fn stopped(self, fault: CommandFault) -> Stopped
+        ensures { result ≡ record { fault = fault; place = self.place; count = self.count } }
+    {
+        Stopped {
+            fault,
+            place: self.place,
+            count: self.count,
+        }
+    }
+}
+
 // One command: by the reader, and then by its place and its content.
 #[tactic(auto, using(crate::proofs::Reading::refused_reading), unfolding(crate::specs::Verdict::judge))]
 fn judge(script: &[u8], at: Progress) -> Result<Progress, CommandFault>
@@ -49,11 +62,7 @@ fn step(script: &[u8], at: Progress) -> Result<Progress, Stopped>
     requires { at.count ≤ 4096 }
     ensures { (s : Standing) → Holds at.plan s → Steps s script.now at result }
 {
-    judge(script, at).map_err(|fault| Stopped {
-        fault,
-        place: at.place,
-        count: at.count,
-    })
+    judge(script, at).map_err(|fault| at.stopped(fault))
 }
 
 // Command after command up to END, behind which nothing may stand.
@@ -70,11 +79,7 @@ fn read_all(script: &[u8]) -> Result<Progress, Stopped>
         at = step(script, at)?;
     }
     if at.place < script.len() {
-        return Err(Stopped {
-            fault: CommandFault::NotAllowedHere,
-            place: at.place,
-            count: at.count,
-        });
+        return Err(at.stopped(CommandFault::NotAllowedHere));
     }
     Ok(at)
 }

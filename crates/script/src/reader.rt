@@ -1,4 +1,4 @@
-// Reads one command of a script.
+// Reads one command of a script. The first byte of each command stands in the patterns as the format has it.
 ghost use Rattle.script.specs.Reading.{read_first, link_from, card_from, crash_from, remark_from, end_from, FirstOf, ReadAt, ReadBack, Matters};
 ghost use Rattle.std.specs.Prelude.{◌≡◌, slice_index};
 
@@ -6,9 +6,12 @@ use crate::command::{CardEntry, Command, CrashEntry, Found};
 use carrier::ConsoleSet;
 use refusal::ReaderFault;
 
-// This function and the three behind it ask for the first byte that `first` has seen: one match with all the operands
-// would be past fifty lines, and each of the four facts is another.
-fn link(bytes: &[u8]) -> Result<(Command<'_>, &[u8]), ReaderFault>
+// A command and the bytes behind it, or why there is none.
+type First<'a> = Result<(Command<'a>, &'a [u8]), ReaderFault>;
+
+// This function and the three behind it ask for the first byte that `first` has seen, each for another: one match that
+// names all the operands would be longer than a screen.
+fn link(bytes: &[u8]) -> First<'_>
     requires { slice_index bytes.now 0 ≡ 0x4C }
     ensures { FirstOf (link_from bytes.now) result }
 {
@@ -18,7 +21,7 @@ fn link(bytes: &[u8]) -> Result<(Command<'_>, &[u8]), ReaderFault>
     Ok((Command::Link { n: *n, f: *f }, rest))
 }
 
-fn card(bytes: &[u8]) -> Result<(Command<'_>, &[u8]), ReaderFault>
+fn card(bytes: &[u8]) -> First<'_>
     requires { slice_index bytes.now 0 ≡ 0x50 }
     ensures { FirstOf (card_from bytes.now) result }
 {
@@ -48,7 +51,7 @@ fn card(bytes: &[u8]) -> Result<(Command<'_>, &[u8]), ReaderFault>
     Ok((Command::Card(card), rest))
 }
 
-fn crash(bytes: &[u8]) -> Result<(Command<'_>, &[u8]), ReaderFault>
+fn crash(bytes: &[u8]) -> First<'_>
     requires { slice_index bytes.now 0 ≡ 0x43 }
     ensures { FirstOf (crash_from bytes.now) result }
 {
@@ -63,7 +66,7 @@ fn crash(bytes: &[u8]) -> Result<(Command<'_>, &[u8]), ReaderFault>
     Ok((Command::Crash(crash), rest))
 }
 
-fn remark(bytes: &[u8]) -> Result<(Command<'_>, &[u8]), ReaderFault>
+fn remark(bytes: &[u8]) -> First<'_>
     requires { slice_index bytes.now 0 ≡ 0x52 }
     ensures { FirstOf (remark_from bytes.now) result }
 {
@@ -76,7 +79,7 @@ fn remark(bytes: &[u8]) -> Result<(Command<'_>, &[u8]), ReaderFault>
 // The command that the bytes begin with, and what is left behind it. A match in place: the byte decides which operands
 // there are, so closures for them would have no common argument but the bytes again.
 #[tactic(auto, using(crate::proofs::Reading::end_read))]
-fn first(bytes: &[u8]) -> Result<(Command<'_>, &[u8]), ReaderFault>
+fn first(bytes: &[u8]) -> First<'_>
     ensures { FirstOf (read_first bytes.now) result }
 {
     match bytes {

@@ -10,8 +10,8 @@ use crate::scripted::Scripted;
 use crate::table::Table;
 use carrier::{Carrier, ConsoleSet, Sizes};
 
-// Who of the ring is up after the round. A `for`, since the console's own number is asked about and put in: with `filter`
-// and `fold` the proof would be longer than the loop.
+// Who of the ring is up after the round. A `for`, since the console's own number is asked about and put in; `filter`
+// with `fold` was tried, and its proof did not close.
 #[tactic(auto, unfolding(carrier::specs::Sets::those))]
 fn staying(table: &Table, sizes: Sizes, round: u8) -> ConsoleSet
     ensures { result.bits ≡ those sizes.n (λ c. up_after round (fates table.now.entries c)) }

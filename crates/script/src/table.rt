@@ -5,8 +5,8 @@ ghost use Rattle.std.specs.Prelude.{◌≡◌, ◌<◌, replicate, is_some, coun
 
 use carrier::{ConsoleSet, Sizes};
 
-// What becomes of one console: the round in which it is lost, if it is, and who hears it then. A whole struct for each
-// console, with nobody for the hearers of one that stays: the table is sixteen of them in fixed memory.
+// What becomes of one console: the round in which it is lost, if it is, and who hears it then. The table is to be
+// sixteen of these, one struct for every console, lost or not; the hearers of one that stays are nobody.
 #[derive(Clone, Copy)]
 pub struct Loss {
     pub round: Option<u8>,
@@ -14,6 +14,7 @@ pub struct Loss {
 }
 
 impl Loss {
+    // A name and no `Default`, as for the table, the plan and the carrier: it says that nobody is lost.
     pub(crate) fn none() -> Loss
         ensures { result ≡ no_loss }
     {
@@ -75,7 +76,7 @@ impl Table {
     }
 
     // How many consoles are lost.
-    pub(crate) fn losses(&self) -> usize
+    pub(crate) fn lost(&self) -> usize
         ensures { result ≡ count_by (λ loss. is_some loss.round) self.now.entries }
     {
         self.entries

@@ -229,12 +229,9 @@ fn put_card(rt: &impl Abort, script: &mut [u8], place: usize, console: u8) {
 fn the_longest_script(rt: HostRuntime) {
     let mut script = [0x52; 4097];
     script[0..3].copy_from_slice(&[0x4C, 6, 5]);
-    put_card(&rt, &mut script, 3, 0);
-    put_card(&rt, &mut script, 13, 1);
-    put_card(&rt, &mut script, 23, 2);
-    put_card(&rt, &mut script, 33, 3);
-    put_card(&rt, &mut script, 43, 4);
-    put_card(&rt, &mut script, 53, 5);
+    for console in 0..6 {
+        put_card(&rt, &mut script, 3 + 10 * console as usize, console);
+    }
     script[4095] = 0x45;
     loads(&rt, &script[0..4096], 6, 5, 456);
     refused(&rt, &script, b"refused 1 entry at 0 after 0\n");

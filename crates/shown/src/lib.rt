@@ -8,7 +8,7 @@ use std::fmt;
 #[derive(Drop)]
 pub struct ShownCard(pub Card);
 
-// Not a `Display` of `Region`: how people read a card is told here alone, and the libraries below print nothing.
+// Not a `Display` of `Region`: how people read a card is told in this crate alone.
 fn region_name(region: Region) -> &'static str {
     match region {
         Region::Unmarked => "none",

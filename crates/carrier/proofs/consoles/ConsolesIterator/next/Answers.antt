@@ -1,4 +1,4 @@
-use Rattle.std.proofs.Common.{◌≡◌, ◌+◌, ◌-◌, suc, [], length, ◌∷◌, ap, ◌∙◌, arith}
+use Rattle.std.proofs.Common.{◌≡◌, ◌+◌, ◌-◌, [], length, ◌∷◌, ap, ◌∙◌, arith}
 use Rattle.carrier.specs.Rising.{members_among, still_to_come}
 use Rattle.carrier.proofs.Rising.{none_among, first_among}
 use Rattle.carrier.proofs.consoles.ConsolesIterator.next.Goals as goal
@@ -14,11 +14,8 @@ given c =
     let start = c.args.self.now.start in
     let m = c.in_ok-console.console in
     let found = c.in_ok-console.ensures in
-    let left : start + (16 - start) - suc m ≡ 16 - (m + 1) = omega arith in
-    let next : suc m ≡ m + 1 = omega arith in
-    first_among s start (16 - start) m found.0 (omega arith) found.2 found.3
-    ∙ ap (λ j. m ∷ members_among s (suc m) j) left
-    ∙ ap (λ k. m ∷ members_among s k (16 - (m + 1))) next
+    let left : start + (16 - start) - (m + 1) ≡ 16 - (m + 1) = omega arith in
+    first_among s start (16 - start) m found.0 (omega arith) found.2 found.3 ∙ ap (λ j. m ∷ members_among s (m + 1) j) left
 
 pub returns-clause-steps : goal.returns-clause-steps
 returns-clause-steps c = given c

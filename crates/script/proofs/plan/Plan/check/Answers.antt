@@ -30,10 +30,10 @@ returns-then-is_some-clause-rules c = λ l h.
     let old = listed (goal.at.returns-then-is_some-clause-rules c).After-is_some l h in
     grind (arith, nat_tests)
 
-pub returns-then-losses-clause-rules : goal.returns-then-losses-clause-rules
-returns-then-losses-clause-rules c = λ l h.
-    let out = heard (goal.at.returns-then-losses-clause-rules c).After-is_subset l h in
-    let old = listed (goal.at.returns-then-losses-clause-rules c).After-is_some l h in
+pub returns-then-lost-losses-clause-rules : goal.returns-then-lost-losses-clause-rules
+returns-then-lost-losses-clause-rules c = λ l h.
+    let out = heard (goal.at.returns-then-lost-losses-clause-rules c).After-is_subset l h in
+    let old = listed (goal.at.returns-then-lost-losses-clause-rules c).After-is_some l h in
     let count = losses_counted c.args.self.now l h in
     grind (arith, nat_tests)
 
