@@ -14,7 +14,7 @@ pub trait Carrier {
     fn sizes(&self) -> Sizes
         ensures { (result.n ≡ (pattern self.now).n) × (result.f ≡ (pattern self.now).f) };
 
-    // Who is up after the round; after round 0 is before the first.
+    // Who is up after the round; after round 0 is before the first, since the laws count rounds so.
     fn up(&self, round: u8) -> ConsoleSet
         ensures { result.bits ≡ (pattern self.now).up round };
 

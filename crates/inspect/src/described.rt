@@ -56,7 +56,8 @@ fn count_remarks(bytes: &[u8], commands: usize) -> usize
     remarks
 }
 
-// The ring's cards are the first n of the sixteen, which a load fills in fixed memory.
+// Called once, with all that a load gives. The ring's cards are the first n of the sixteen, which it fills in fixed
+// memory.
 pub fn print(
     rt: &impl Print,
     bytes: &[u8],

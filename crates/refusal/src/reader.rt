@@ -13,6 +13,7 @@ pub enum ReaderFault {
 }
 
 impl ReaderFault {
+    // The number is what people read; code goes by the cases.
     pub fn number(self) -> u8
         ensures { result ≡ reader_number self }
     {

@@ -65,7 +65,7 @@ fn step(script: &[u8], at: Progress) -> Result<Progress, Stopped>
     judge(script, at).map_err(|fault| at.stopped(fault))
 }
 
-// Command after command up to END, behind which nothing may stand.
+// Command after command up to END, behind which nothing may stand. A `while`, as it only asks whether END has come.
 fn read_all(script: &[u8]) -> Result<Progress, Stopped>
     requires { length script.now ≤ 4096 }
     ensures { ReadsAll script.now result }

@@ -12,8 +12,9 @@ pub(crate) enum Phase {
     Ended,
 }
 
-// Before LINK the sizes say nothing, and there is no card and no loss. The cards and the table both go by the console,
-// and stand apart, since the carrier takes the table whole and the cards go into the caller's list.
+// Before LINK the sizes say nothing, and there is no card and no loss. Sizes and table are those of the carrier to
+// come. The cards and the table both go by the console, and stand apart, since the carrier takes the table whole and
+// the cards go into the caller's list.
 #[derive(Clone, Copy)]
 pub(crate) struct Plan {
     pub(crate) phase: Phase,

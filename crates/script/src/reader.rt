@@ -9,8 +9,8 @@ use refusal::ReaderFault;
 // A command and the bytes behind it, or why there is none.
 type First<'a> = Result<(Command<'a>, &'a [u8]), ReaderFault>;
 
-// This function and the three behind it ask for the first byte that `first` has seen, each for another: one match that
-// names all the operands would be longer than a screen.
+// This function and the three behind it each name the operands of one command in one slice pattern, and require its
+// first byte, which `first` has seen. One match that names all the operands would be longer than a screen.
 fn link(bytes: &[u8]) -> First<'_>
     requires { slice_index bytes.now 0 ≡ 0x4C }
     ensures { FirstOf (link_from bytes.now) result }
@@ -77,7 +77,7 @@ fn remark(bytes: &[u8]) -> First<'_>
 }
 
 // The command that the bytes begin with, and what is left behind it. A match in place: the byte decides which operands
-// there are, so closures for them would have no common argument but the bytes again.
+// there are.
 #[tactic(auto, using(crate::proofs::Reading::end_read))]
 fn first(bytes: &[u8]) -> First<'_>
     ensures { FirstOf (read_first bytes.now) result }

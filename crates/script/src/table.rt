@@ -5,8 +5,8 @@ ghost use Rattle.std.specs.Prelude.{◌≡◌, ◌<◌, replicate, is_some, coun
 
 use carrier::{ConsoleSet, Sizes};
 
-// What becomes of one console: the round in which it is lost, if it is, and who hears it then. The table is to be
-// sixteen of these, one struct for every console, lost or not; the hearers of one that stays are nobody.
+// What becomes of one console: the round in which it is lost, if it is, and who hears it then. The table is sixteen
+// of these, one struct for every console, lost or not; the hearers of one that stays are nobody.
 #[derive(Clone, Copy)]
 pub struct Loss {
     pub round: Option<u8>,
