@@ -1,5 +1,5 @@
 -- The line that reports a refused load to people, and the text that a line holds.
-use Rattle.std.specs.Prelude.{ℕ, List, [], ◌++◌, Some, None, codes, decimal, Option}
+use Rattle.std.specs.Prelude.{ℕ, List, [], ◌++◌, take, Some, None, codes, decimal, Option}
 use Rattle.refusal.specs.Table.{load_number, load_layer, load_place, load_count, load_names}
 use Rattle.refusal.specs.declared.layer.Layer.{Layer}
 use Rattle.refusal.specs.declared.layer.Layer.TheVariants.{Entry, Reader, Order, Content, Lists, Session}
@@ -8,7 +8,7 @@ use Rattle.refusal.specs.declared.load.LoadFault.{LoadFault}
 
 -- The text that a line holds.
 abbrev pub text_of : Line → List ℕ
-text_of l = l.text.bytes
+text_of l = take l.length l.bytes
 
 -- A layer's name in small letters.
 abbrev pub layer_name_lem : Layer → List ℕ

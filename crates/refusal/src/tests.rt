@@ -225,3 +225,14 @@ fn a_line_prints_its_text(rt: HostRuntime) -> fmt::Result {
     assert_eq!(rt; printed.as_str(), "refused 1 entry at 0 after 0\n");
     Ok(())
 }
+
+fn length_of(line: Line) -> usize {
+    line.as_bytes().len()
+}
+
+#[test]
+fn a_line_is_passed_by_value_and_used_again(rt: HostRuntime) {
+    let line = LoadFault::TooLong.line();
+    assert_eq!(rt; length_of(line), 29);
+    assert_eq!(rt; length_of(line), 29);
+}
