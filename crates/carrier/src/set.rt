@@ -39,6 +39,7 @@ impl ConsoleSet {
         }
     }
 
+    #[tactic(auto, using(crate::proofs::Sets::one_console))]
     pub fn one(console: u8) -> ConsoleSet
         ensures { Single console result.bits }
     {
@@ -65,6 +66,7 @@ impl ConsoleSet {
         }
     }
 
+    #[tactic(auto, using(crate::proofs::Sets::those_apart))]
     pub fn difference(self, other: ConsoleSet) -> ConsoleSet
         ensures { Difference self.bits other.bits result.bits }
     {
@@ -79,12 +81,14 @@ impl ConsoleSet {
         self.union(ConsoleSet::one(console))
     }
 
+    #[tactic(auto, using(crate::proofs::Sets::one_less))]
     pub fn without(self, console: u8) -> ConsoleSet
         ensures { Removed self.bits console result.bits }
     {
         self.difference(ConsoleSet::one(console))
     }
 
+    #[tactic(auto, using(crate::proofs::Sets::none_above))]
     pub fn holds(self, console: u8) -> bool
         ensures { Decides result (Member console self.bits) }
     {
@@ -109,6 +113,10 @@ impl ConsoleSet {
     pub fn lowest_from(self, start: u8) -> Option<u8>
         ensures { LowestFrom self.bits start result }
     {
-        (start..16).find(|&console| self.holds(console))
+        let rest = self.difference(ConsoleSet::all_of(start));
+        if rest.bits == 0 {
+            return None;
+        }
+        Some(rest.bits.trailing_zeros() as u8)
     }
 }

@@ -25,6 +25,7 @@ impl Staggered {
 }
 
 // Who is up after the round.
+#[tactic(auto, using(crate::proofs::Staying::who_stays))]
 fn staying(sizes: Sizes, round: u8) -> ConsoleSet
     ensures { result.bits ≡ (staggered sizes.n sizes.f).up round }
 {
