@@ -46,12 +46,12 @@ one_uncarded n cards o p h k = grind arith
 is_uncarded : (n : ℕ) (cards : List CardEntry) (o : Option ℕ) → IsUncarded n cards o → uncarded n cards ≡ o
 is_uncarded n cards o h = one_uncarded n cards (uncarded n cards) o (uncarded_is n cards) h
 
--- a search among the consoles below m
-pub searched : (n : ℕ) (cards : List CardEntry) (m : ℕ) → m ≡ n → (r : Option ℕ)
-    → MatchOption r ((k : ℕ) → 0 ≤ k → k < m → has_card k cards ≡ true)
-    (λ i. (0 ≤ i) × (i < m) × (has_card i cards ≡ false) × ((k : ℕ) → 0 ≤ k → k < i → has_card k cards ≡ true))
-    → r ≡ uncarded n cards
-searched n cards m same r h = sym (is_uncarded n cards r (grind arith))
+-- a search among the consoles from the first one on, below m
+pub searched : (n : ℕ) (cards : List CardEntry) (first m : ℕ) (r : Option ℕ)
+    → MatchOption r ((k : ℕ) → first ≤ k → k < m → has_card k cards ≡ true)
+    (λ i. (first ≤ i) × (i < m) × (has_card i cards ≡ false) × ((k : ℕ) → first ≤ k → k < i → has_card k cards ≡ true))
+    → first ≡ 0 → m ≡ n → r ≡ uncarded n cards
+searched n cards first m r h begin same = sym (is_uncarded n cards r (grind arith))
 
 pub uncarded_is_lowest : UncardedIsLowest
 uncarded_is_lowest = record {

@@ -1,18 +1,14 @@
 -- How many consoles are lost: as many as crashes are listed.
-use Rattle.std.proofs.Common.{◌≡◌, ℕ, zero, suc, ◌<◌, ◌≤◌, false, cond, List, [], ◌∷◌, length, get_or, take, take_all, is_some, Some, None, Option, count_by, sym, refl, ap, ◌∙◌, add-one, arith}
-use Rattle.carrier.specs.Losses.{Fate, stays, lost, loses}
+use Rattle.std.proofs.Common.{◌≡◌, ℕ, zero, suc, ◌<◌, ◌≤◌, false, cond, List, [], ◌∷◌, length, is_some, Some, None, Option, refl, ap, ◌∙◌, arith}
+use Rattle.carrier.specs.Losses.{Fate, loses}
 use Rattle.script.specs.Admitted.{NoTwo, Sound}
-use Rattle.script.specs.Fates.{no_loss, fates, losses_below}
+use Rattle.script.specs.Fates.{fates, losses_below}
 use Rattle.script.specs.Listing.{Listing, crash_for, listed_fate}
-use Rattle.script.specs.Plans.{Holds}
-use Rattle.script.specs.Rules.{under_way}
 use Rattle.script.specs.declared.command.CrashEntry.{CrashEntry}
 use Rattle.script.specs.declared.plan.Plan.{Plan}
-use Rattle.script.specs.declared.table.Loss.{Loss}
 use Rattle.script.proofs.Entries.{others_absent}
 use Rattle.std.proofs.ByRecursion.{All-weaker}
 use Rattle.std.proofs.lemmas.Bool.Decides.{nat_tests}
-use Rattle.std.proofs.lemmas.List.Sums.{sum_by_more}
 use Rattle.std.specs.List.{AllByRecursion}
 
 pub none_since : {A : Type 0} (o : Option A) → is_some o ≡ false → o ≡ None
@@ -43,20 +39,3 @@ pub losses_listed : (p : Plan) (l : Listing) → Sound l → ((c : ℕ) → fate
 losses_listed p l sound same =
     same_losses (fates p.table.entries) (listed_fate l.crashes) same 16
     ∙ lost_as_listed l.crashes 16 sound.one_crash_each (All-weaker _ _ (λ e lt. omega (arith, sound.sizes.1)) l.crashes sound.crashes_in_ring)
-
--- the count that the code makes
-lost_or_not : (o : Option ℕ) (hearers : ℕ) → loses (elim o [ None ↦ stays | Some round ↦ lost round hearers ]) ≡ is_some o
-lost_or_not None hearers = refl
-lost_or_not (Some round) hearers = refl
-
-counted : (entries : List Loss) (n : ℕ) → n ≤ length entries → count_by (λ loss. is_some loss.round) (take n entries) ≡ losses_below (fates entries) n
-counted entries zero h = refl
-counted entries (suc n) h =
-    let loss = get_or entries n no_loss in
-    rw (← add-one n)
-    (omega (arith, sum_by_more (λ (x : Loss). cond (is_some x.round) 1 0) entries n no_loss (omega arith), counted entries n (omega arith), ap {B = ℕ} (λ b. cond b 1 0) (lost_or_not loss.round loss.hearers.bits)))
-
-pub losses_counted : (p : Plan) (l : Listing) → Holds p (under_way l) → count_by (λ loss. is_some loss.round) p.table.entries ≡ length l.crashes
-losses_counted p l h =
-    let all = take_all 16 p.table.entries (omega (arith, h.entries)) in
-    ap (count_by (λ loss. is_some loss.round)) (sym all) ∙ counted p.table.entries 16 (omega (arith, h.entries)) ∙ losses_listed p l h.content h.fate

@@ -1,5 +1,5 @@
 -- A plan that holds what stands goes on holding it with one command more.
-use Rattle.std.proofs.Common.{◌≡◌, ℕ, ◌^◌, ◌<◌, Bool, true, false, List, [], ◌∷◌, ◌++◌, length, get_or, set, is_some, Some, None, Ok, Option, Decides, not, leb, sym, refl, ap, ◌∙◌, subst, ⊎_elim, arith, length-set, get_or-set_other, get_or-set_same}
+use Rattle.std.proofs.Common.{◌≡◌, ℕ, ◌+◌, ◌^◌, ◌<◌, Bool, true, false, List, [], ◌∷◌, ◌++◌, length, get_or, set, is_some, Some, None, Ok, Option, Decides, not, leb, sym, refl, ap, ◌∙◌, subst, ⊎_elim, arith, length-append, length-set, get_or-set_other, get_or-set_same}
 use Rattle.carrier.specs.Losses.{stays, lost}
 use Rattle.carrier.specs.Sets.{Within, everybody}
 use Rattle.joining.specs.Card.{StartCard}
@@ -39,7 +39,7 @@ dealt_more table cards e x size below h new is c =
     (cases_eq e.console c)
 
 abbrev plan_with_card : Plan → ℕ → StartCard → Plan
-plan_with_card p console x = record { phase = p.phase; sizes = p.sizes; cards = set p.cards console (Some x); table = p.table }
+plan_with_card p console x = record { phase = p.phase; sizes = p.sizes; cards = set p.cards console (Some x); table = p.table; losses = p.losses }
 
 pub card_taken : (p : Plan) (l : Listing) (e : CardEntry) (x : StartCard) → Holds p (under_way l) → length l.crashes ≡ 0 → e.console < p.sizes.n
     → is_some (get_or p.cards e.console None) ≡ false → CardFor e x → readable e ≡ true → Takes (under_way l) (card e) (Ok (plan_with_card p e.console x))
@@ -55,6 +55,7 @@ card_taken p l e x h none below new is read =
         places = length-set p.cards e.console (Some x) ∙ h.places;
         fate = h.fate;
         entries = h.entries;
+        losses = h.losses;
         content = card_next l e h.content passes;
       },
     )
@@ -92,7 +93,7 @@ phase_push [] e = refl
 phase_push (x ∷ xs) e = refl
 
 abbrev plan_with_crash : Plan → CrashEntry → List Loss → Plan
-plan_with_crash p e entries = record { phase = Crashes; sizes = p.sizes; cards = p.cards; table = record { entries = entries } }
+plan_with_crash p e entries = record { phase = Crashes; sizes = p.sizes; cards = p.cards; table = record { entries = entries }; losses = p.losses + 1 }
 
 pub crash_taken : (p : Plan) (l : Listing) (e : CrashEntry) (entries : List Loss) → Holds p (under_way l) → Passes (under_way l) (crash e)
     → entries ≡ set p.table.entries e.console (loss_of e) → Takes (under_way l) (crash e) (Ok (plan_with_crash p e entries))
@@ -107,13 +108,14 @@ crash_taken p l e entries h passes is =
         places = h.places;
         fate = λ c. ap (λ xs. fates xs c) is ∙ fate_more p.table.entries l.crashes e h.entries (omega (arith, h.content.sizes.1)) h.fate k.1.1.1.0 c;
         entries = ap length is ∙ length-set p.table.entries e.console (loss_of e) ∙ h.entries;
+        losses = omega (arith, h.losses, length-append l.crashes (e ∷ []));
         content = crash_next l e h.content passes;
       },
     )
 
 -- a plan whose last command is END
 pub end_taken : (p : Plan) (l : Listing) → Holds p (under_way l) → Passes (under_way l) end
-    → Takes (under_way l) end (Ok (record { phase = Ended; sizes = p.sizes; cards = p.cards; table = p.table }))
+    → Takes (under_way l) end (Ok (record { phase = Ended; sizes = p.sizes; cards = p.cards; table = p.table; losses = p.losses }))
 end_taken p l h passes = (
   passes,
   record {
@@ -123,6 +125,7 @@ end_taken p l h passes = (
     places = h.places;
     fate = h.fate;
     entries = h.entries;
+    losses = h.losses;
     content = (h.content, end_next l passes);
   },
 )

@@ -1,17 +1,16 @@
 -- What the loader holds of the commands that it has read.
-use Rattle.std.specs.Prelude.{◌≡◌, ℕ, ◌+◌, ◌<◌, ◌≤◌, true, false, List, [], ◌∷◌, length, drop, Some, None, Ok, Err, Option, Result, slice_index_or}
+use Rattle.std.specs.Prelude.{◌≡◌, ℕ, ◌+◌, ◌<◌, ◌≤◌, List, [], ◌∷◌, length, drop, Some, None, Ok, Err, Option, Result, slice_index_or}
 use Rattle.joining.specs.Card.{StartCard}
 use Rattle.refusal.specs.declared.command.CommandFault.{CommandFault}
 use Rattle.refusal.specs.declared.command.CommandFault.TheVariants.{Content}
 use Rattle.refusal.specs.declared.content.ContentFault.{ContentFault}
-use Rattle.refusal.specs.declared.content.ContentFault.TheVariants.{CardOutOfRange}
 use Rattle.refusal.specs.declared.load.LoadFault.{LoadFault}
 use Rattle.refusal.specs.declared.load.Stopped.{Stopped}
 use Rattle.script.specs.Admitted.{WithinContent}
 use Rattle.script.specs.Fates.{fates}
 use Rattle.script.specs.Format.{Statement, bytes_of}
 use Rattle.script.specs.Listing.{Listing, CardFor, card_for, listed_fate}
-use Rattle.script.specs.Rules.{Standing, nothing, under_way, ended, readable, rules, first_broken, advance}
+use Rattle.script.specs.Rules.{Standing, nothing, under_way, ended, rules, first_broken, advance}
 use Rattle.script.specs.Verdict.{accepted, refused, stops, goes, judge, verdict}
 use Rattle.script.specs.declared.command.CardEntry.{CardEntry}
 use Rattle.script.specs.declared.command.CrashEntry.{CrashEntry}
@@ -19,11 +18,6 @@ use Rattle.script.specs.declared.loader.Progress.{Progress}
 use Rattle.script.specs.declared.plan.Phase.{Phase}
 use Rattle.script.specs.declared.plan.Phase.TheVariants.{Opening, Cards, Crashes, Ended}
 use Rattle.script.specs.declared.plan.Plan.{Plan}
-
--- the card that the entry describes, or it describes none
-abbrev pub CardRead : CardEntry → Result StartCard ContentFault → Type 0
-CardRead e (Ok card) = CardFor e card × (readable e ≡ true)
-CardRead e (Err fault) = (readable e ≡ false) × (fault ≡ CardOutOfRange e.console)
 
 -- what is listed, and what may come next
 abbrev pub cards_of : Standing → List CardEntry
@@ -66,6 +60,7 @@ pub record Holds (p : Plan) (s : Standing) : Type 0 where
   pub places : length p.cards ≡ 16
   pub fate : (c : ℕ) → fates p.table.entries c ≡ listed_fate (crashes_of s) c
   pub entries : length p.table.entries ≡ 16
+  pub losses : p.losses ≡ length (crashes_of s)
   pub content : WithinContent s
 
 -- what becomes of a plan by one command: it breaks no rule and is added, or it is refused by the first rule that it breaks

@@ -1,11 +1,12 @@
 -- What each command may be refused for where it stands, in the order in which it is judged.
-use Rattle.std.specs.Prelude.{ℕ, ◌+◌, ◌^◌, Bool, true, cond, not, ◌&&◌, ◌||◌, List, [], ◌∷◌, ◌++◌, length, is_some, Some, None, Option, ◌==◌, nat_le, nat_lt}
+use Rattle.std.specs.Prelude.{◌≡◌, ℕ, ◌+◌, ◌^◌, Bool, true, false, cond, not, ◌&&◌, ◌||◌, List, [], ◌∷◌, ◌++◌, length, is_some, Some, None, Ok, Err, Option, Result, ◌==◌, nat_le, nat_lt}
+use Rattle.joining.specs.Card.{StartCard}
 use Rattle.refusal.specs.declared.command.CommandFault.{CommandFault}
 use Rattle.refusal.specs.declared.command.CommandFault.TheVariants.{NotAllowedHere, Content}
 use Rattle.refusal.specs.declared.content.ContentFault.{ContentFault}
 use Rattle.refusal.specs.declared.content.ContentFault.TheVariants.{SizesOutOfRange, ConsoleOutOfRange, SecondCard, CardOutOfRange, RoundOutOfRange, HearersOutOfRange, SecondCrash, TooManyCrashes, CardMissing}
 use Rattle.script.specs.Format.{Statement, link, card, crash, remark, end}
-use Rattle.script.specs.Listing.{Listing, has_card, has_crash, uncarded, region_for}
+use Rattle.script.specs.Listing.{Listing, CardFor, has_card, has_crash, uncarded, region_for}
 use Rattle.script.specs.declared.command.CardEntry.{CardEntry}
 use Rattle.script.specs.declared.command.CrashEntry.{CrashEntry}
 
@@ -34,6 +35,11 @@ in_range n f = nat_le 1 n && (nat_le n 16 && nat_lt f n)
 -- the letter is a region's, and the delay is 15 at most
 abbrev pub readable : CardEntry → Bool
 readable e = is_some (region_for e.letter) && nat_le e.delay 15
+
+-- what an entry is turned into: the card that it describes, or the refusal of its console where it describes none
+abbrev pub CardRead : CardEntry → Result StartCard ContentFault → Type 0
+CardRead e (Ok made) = CardFor e made × (readable e ≡ true)
+CardRead e (Err fault) = (readable e ≡ false) × (fault ≡ CardOutOfRange e.console)
 
 -- a card's console, whether it has one already, and what the card says
 abbrev pub card_rules : Listing → CardEntry → List Rule

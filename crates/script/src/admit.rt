@@ -24,6 +24,7 @@ impl Plan {
             sizes: smallest(),
             cards: [None; 16],
             table: Table::empty(),
+            losses: 0,
         }
     }
 
@@ -57,7 +58,7 @@ impl Plan {
     // Whether a crash may be listed.
     fn check(&self, entry: CrashEntry) -> Result<(), ContentFault>
         ensures rules { (l : Listing) → Holds self.now (under_way l) → Checks (under_way l) (crash entry) result }
-        ensures room { OnOk result (entry.console < self.now.sizes.n) }
+        ensures room { OnOk result ((entry.console < self.now.sizes.n) × (self.now.losses < self.now.sizes.f)) }
     {
         let CrashEntry {
             round,
@@ -76,7 +77,7 @@ impl Plan {
         if self.table.entry(console).round.is_some() {
             return Err(ContentFault::SecondCrash { console, round });
         }
-        if self.table.lost() >= self.sizes.losses() as usize {
+        if self.losses >= self.sizes.losses() {
             return Err(ContentFault::TooManyCrashes { console, round });
         }
         Ok(())
@@ -97,6 +98,7 @@ impl Plan {
         Ok(Plan {
             phase: Phase::Crashes,
             table,
+            losses: self.losses + 1,
             ..self
         })
     }

@@ -1,6 +1,6 @@
 // From the operands of a CARD to a start card.
 ghost use Rattle.script.specs.Listing.{region_for};
-ghost use Rattle.script.specs.Plans.{CardRead};
+ghost use Rattle.script.specs.Rules.{CardRead};
 ghost use Rattle.std.specs.Prelude.{◌≡◌};
 
 use crate::command::CardEntry;

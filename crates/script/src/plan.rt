@@ -21,4 +21,6 @@ pub(crate) struct Plan {
     pub(crate) sizes: Sizes,
     pub(crate) cards: [Option<Card>; 16],
     pub(crate) table: Table,
+    // how many consoles the table loses: kept, since to count them anew at each CRASH makes every load slower
+    pub(crate) losses: u8,
 }

@@ -1,7 +1,7 @@
 // What becomes of each console of a scripted ring.
 ghost use Rattle.carrier.specs.Losses.{up_after, heard_in};
 ghost use Rattle.script.specs.Fates.{no_loss, fate_of};
-ghost use Rattle.std.specs.Prelude.{◌≡◌, ◌<◌, replicate, is_some, count_by, slice_index_or, slice_set};
+ghost use Rattle.std.specs.Prelude.{◌≡◌, ◌<◌, replicate, slice_index_or, slice_set};
 
 use carrier::{ConsoleSet, Sizes};
 
@@ -73,15 +73,5 @@ impl Table {
             .get(console as usize)
             .copied()
             .unwrap_or_else(Loss::none)
-    }
-
-    // How many consoles are lost.
-    pub(crate) fn lost(&self) -> usize
-        ensures { result ≡ count_by (λ loss. is_some loss.round) self.now.entries }
-    {
-        self.entries
-            .iter()
-            .filter(|loss| loss.round.is_some())
-            .count()
     }
 }

@@ -24,7 +24,7 @@ loop-at-preserved c =
     (c.in_ok-at.ensures c.loop-at.invariant.standing c.loop-at.invariant.holds)
 
 pub returns-then-at-script : goal.returns-then-at-script
-returns-then-at-script c = rw c.stopped.ensures (bytes_behind_end c.args.script.now c.loop-at.at c.loop-at.invariant (at_end c.loop-at.at.plan.phase c.loop-at-test.ensures) (omega arith))
+returns-then-at-script c = bytes_behind_end c.args.script.now c.loop-at.at c.loop-at.invariant (at_end c.loop-at.at.plan.phase c.loop-at-test.ensures) (omega arith)
 
 pub returns : goal.returns
 returns c = read_to_end c.args.script.now c.loop-at.at c.loop-at.invariant (at_end c.loop-at.at.plan.phase c.loop-at-test.ensures) (omega arith)

@@ -5,7 +5,6 @@ use Rattle.script.specs.Fates.{fate_of}
 use Rattle.script.specs.Listing.{Listing, crash_for, has_crash}
 use Rattle.script.specs.Plans.{Holds}
 use Rattle.script.specs.Rules.{under_way}
-use Rattle.script.proofs.Losses.{losses_counted}
 use Rattle.script.proofs.Plans.{hearers_tested, lost_listed}
 use Rattle.script.proofs.plan.Plan.check.Goals as goal
 use Rattle.script.proofs.plan.Plan.check.Goals.{After-is_subset, After-is_some}
@@ -30,16 +29,16 @@ returns-then-is_some-clause-rules c = λ l h.
     let old = listed (goal.at.returns-then-is_some-clause-rules c).After-is_some l h in
     grind (arith, nat_tests)
 
-pub returns-then-lost-losses-clause-rules : goal.returns-then-lost-losses-clause-rules
-returns-then-lost-losses-clause-rules c = λ l h.
-    let out = heard (goal.at.returns-then-lost-losses-clause-rules c).After-is_subset l h in
-    let old = listed (goal.at.returns-then-lost-losses-clause-rules c).After-is_some l h in
-    let count = losses_counted c.args.self.now l h in
+pub returns-then-self-losses-clause-rules : goal.returns-then-self-losses-clause-rules
+returns-then-self-losses-clause-rules c = λ l h.
+    let out = heard (goal.at.returns-then-self-losses-clause-rules c).After-is_subset l h in
+    let old = listed (goal.at.returns-then-self-losses-clause-rules c).After-is_some l h in
+    let count = h.losses in
     grind (arith, nat_tests)
 
 pub returns-clause-rules : goal.returns-clause-rules
 returns-clause-rules c = λ l h.
     let out = heard (goal.at.returns-clause-rules c).After-is_subset l h in
     let old = listed (goal.at.returns-clause-rules c).After-is_some l h in
-    let count = losses_counted c.args.self.now l h in
+    let count = h.losses in
     grind (arith, nat_tests)
