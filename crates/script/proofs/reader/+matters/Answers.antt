@@ -9,6 +9,11 @@ returns-in_err-found t c =
     let p = err_from_is_err_and c.from_residual.result c.from_residual.ensures.1 in
     rw (p.1, p.2) (here _ _ c.in_err-found.ensures.stands tt)
 
+pub matters-requires : goal.matters-requires
+matters-requires t c =
+    let on = remark_at c.args.script.now (λ i. omega (arith, c.type_inv.script i)) _ _ _ c.in_ok-found.ensures.stands c.in-Remark.is in
+    (omega (arith, on.nine_on, on.inside, c.decreases), tt)
+
 pub returns-in-Remark : goal.returns-in-Remark
 returns-in-Remark t c =
     let on = remark_at c.args.script.now (λ i. omega (arith, c.type_inv.script i)) _ _ _ c.in_ok-found.ensures.stands c.in-Remark.is in
